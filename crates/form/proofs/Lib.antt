@@ -1,0 +1,5 @@
+pub mod BoolLaws
+pub mod KindLaws
+pub mod ReaderLaws
+pub mod RulesLaws
+pub mod PlaceLaws

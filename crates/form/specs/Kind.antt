@@ -1,0 +1,73 @@
+-- The kinds of field: which values a field of the kind can hold, and how a value is spelled in bytes. Nothing here reads.
+use Prim.Native.Nat.{ℕ, zero, suc, _+_, _/_, _%_, _^_}
+use mathlib.Core.Bool.{Bool, true, false, _&&_, _||_}
+use mathlib.Core.List.{List, [], _∷_}
+use mathlib.Core.Option.{Option, none, some}
+use lib.ListN.{length, replicate}
+use lib.Dec.{ltb, eqb}
+
+pub data Kind : Type 0 where
+  fixed : List ℕ → Kind  -- these bytes
+  digits : ℕ → Kind  -- a number, in so many digits
+  maybe : ℕ → Kind  -- blanks, or a number in so many digits
+  text : (ℕ → Bool) → ℕ → Kind  -- so many signs, each of them permitted
+  choice : ℕ → List (List ℕ) → Kind  -- so many bytes, which are one of these words
+
+-- the values that a field of the kind speaks of
+abbrev pub Value : Kind → Type 0
+Value (fixed bs) = Unit {0}
+Value (digits w) = ℕ
+Value (maybe w) = Option ℕ
+Value (text sign w) = List ℕ
+Value (choice w words) = List ℕ
+
+abbrev pub width : Kind → ℕ
+width (fixed bs) = length bs
+width (digits w) = w
+width (maybe w) = w
+width (text sign w) = w
+width (choice w words) = w
+
+-- all of them are so
+abbrev pub every : (ℕ → Bool) → List ℕ → Bool
+every p [] = true
+every p (b ∷ bs) = p b && every p bs
+
+-- two rows of bytes are the same
+abbrev pub same : List ℕ → List ℕ → Bool
+same [] [] = true
+same [] (y ∷ ys) = false
+same (x ∷ xs) [] = false
+same (x ∷ xs) (y ∷ ys) = eqb x y && same xs ys
+
+-- a word is one of these
+abbrev pub among : List (List ℕ) → List ℕ → Bool
+among [] v = false
+among (u ∷ us) v = same u v || among us v
+
+-- which values a field of the kind has room for
+abbrev pub fits : (κ : Kind) → Value κ → Bool
+fits (fixed bs) v = true
+fits (digits w) n = ltb n (10 ^ w)
+fits (maybe w) none = true
+fits (maybe w) (some n) = ltb 0 w && ltb n (10 ^ w)
+fits (text sign w) s = eqb (length s) w && every sign s
+fits (choice w words) v = eqb (length v) w && among words v
+
+-- a number in w digits, the highest first; a digit is a byte from 48 on
+unfoldable pub numeral : ℕ → ℕ → List ℕ
+numeral zero n = []
+numeral (suc w) n = (48 + n / 10 ^ w) ∷ numeral w (n % 10 ^ w)
+
+-- a blank is the byte 32
+abbrev pub blanks : ℕ → List ℕ
+blanks n = replicate n 32
+
+-- how a value is spelled
+abbrev pub spell : (κ : Kind) → Value κ → List ℕ
+spell (fixed bs) v = bs
+spell (digits w) n = numeral w n
+spell (maybe w) none = blanks w
+spell (maybe w) (some n) = numeral w n
+spell (text sign w) s = s
+spell (choice w words) v = v

@@ -1,0 +1,4 @@
+pub mod Kind
+pub mod Form
+pub mod Reader
+pub mod Place
