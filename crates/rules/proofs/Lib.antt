@@ -1,0 +1,3 @@
+pub mod CalendarLaws
+pub mod DateLaws
+pub mod MarkLaws
