@@ -1,3 +1,12 @@
 pub mod CalendarLaws
 pub mod DateLaws
 pub mod MarkLaws
+pub mod FieldLaws
+pub mod HeaderSays
+pub mod PartsSays
+pub mod PaymentSays
+pub mod FileSays
+pub mod SumLaws
+pub mod Viability
+pub mod Demand2
+pub mod Demand3

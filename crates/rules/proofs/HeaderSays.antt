@@ -1,0 +1,135 @@
+-- The fields of A say what the rules say: a filled A is a legal header written out, and the other way round.
+use Prim.Native.Nat.{ℕ, _^_, _<_}
+use mathlib.Core.Path.{_≡_, refl, sym, ap, _∙_, subst}
+use mathlib.Core.Option.{Option, none, some}
+use mathlib.Core.Bool.{_&&_}
+use mathlib.Core.List.{List}
+use lib.ListN.{length}
+use lib.Dec.{T, ltb, eqb, ltb→lt, lt→ltb}
+use Rattle.form.specs.Kind.{maybe, fits, spell, among}
+use Rattle.form.specs.Form.{Holds, Filled, value, bytes}
+use Rattle.form.proofs.BoolLaws.{and-both}
+use Rattle.form.proofs.RulesLaws.{_▸_, Says}
+use Rattle.rules.specs.Calendar.{Day, isDay, inSpan, ofDDMMYY, toDDMMYY, toDDMMYYYY, ofDDMMYYYY}
+use Rattle.rules.specs.Values.{Header}
+use Rattle.rules.specs.Rules.{fileKinds, LegalExecution, LegalHeader}
+use Rattle.rules.specs.Writing.{writeExecution, writeHeader}
+use Rattle.rules.specs.Fields.{executionOf, executionRules, header}
+use Rattle.rules.proofs.CalendarLaws.{IsDay, see-day, span-counted}
+use Rattle.rules.proofs.DateLaws.{short-fits, short-back, short-there, short-year, long-fits, long-back, long-there}
+use Rattle.rules.proofs.FieldLaws.{text-fits, fits-text, kind-fits}
+
+-- the content of a field of fixed bytes
+ok : Unit {0} × Unit {0} × Unit {0}
+ok = (tt, tt, tt)
+
+-- ---- A11b
+
+-- a legal execution date, and the content of the field that says it
+record Executes (made : Day) (e : Option Day) : Type 0 where
+  number : Option ℕ
+  fits : T (fits (maybe 8) number)
+  holds : Holds (executionRules made (executionOf number))
+  says : executionOf number ≡ e
+  spelled : spell (maybe 8) number ≡ writeExecution e
+
+executes : (made : Day) (e : Option Day) → IsDay made → made .year < 9999 → LegalExecution made e → Executes made e
+executes made none h y l = record { number = none; fits = tt; holds = tt; says = refl; spelled = refl }
+executes made (some d) h y l =
+    let i = see-day d l.0 in
+    let back = long-back d i in
+    record {
+      number = some (toDDMMYYYY d);
+      fits = lt→ltb (toDDMMYYYY d) (10 ^ 8) (long-fits d i);
+      holds = rw back (l.0, (span-counted made d h y i .0 l.1, tt));
+      says = ap {B = Option Day} some back;
+      spelled = refl;
+    }
+
+-- and the other way round
+execution-legal : (made : Day) (n : Option ℕ) → IsDay made → made .year < 9999 → Holds (executionRules made (executionOf n)) → LegalExecution made (executionOf n)
+execution-legal made none h y l = tt
+execution-legal made (some n) h y l = let d = ofDDMMYYYY n in (l.0, span-counted made d h y (see-day d l.0) .1 (l .1 .0))
+
+execution-spelled : (n : Option ℕ) → spell (maybe 8) n ≡ writeExecution (executionOf n)
+execution-spelled none = refl
+execution-spelled (some n) = rw (long-there n)
+
+-- ---- A
+
+same-header : (h : Header) (made : Day) (e : Option Day) → made ≡ h .made → e ≡ h .execution
+    → _≡_ {A = Header} (record {
+      fileKind = h .fileKind;
+      bankCode = h .bankCode;
+      senderBank = h .senderBank;
+      sender = h .sender;
+      made = made;
+      account = h .account;
+      reference = h .reference;
+      execution = e;
+    }) h
+same-header h made e p q = rw (p, q)
+
+-- a legal header fills in A; n is what A7 holds
+from-number : (h : Header) (l : LegalHeader h) (n : ℕ) → n ≡ toDDMMYY (h .made) → ofDDMMYY n ≡ h .made → n < 10 ^ 6 → T (isDay (ofDDMMYY n))
+    → Executes (ofDDMMYY n) (h .execution) → (r : Filled header) × (value header r ≡ h) × (bytes header r ≡ writeHeader h)
+from-number h l n e back small day x = (
+  ok
+      ▸ ok
+      ▸ (h .fileKind, kind-fits (h .fileKind) (l .A3), tt)
+      ▸ (h .bankCode, lt→ltb (h .bankCode) (10 ^ 8) (l .A4), tt)
+      ▸ (h .senderBank, lt→ltb (h .senderBank) (10 ^ 8) (l .A5), (l .A5-zero, tt))
+      ▸ (h .sender, text-fits (h .sender) (l .A6), tt)
+      ▸ (n, lt→ltb n (10 ^ 6) small, (day, tt))
+      ▸ ok
+      ▸ (h .account, lt→ltb (h .account) (10 ^ 10) (l .A9), tt)
+      ▸ (h .reference, lt→ltb (h .reference) (10 ^ 10) (l .A10), tt)
+      ▸ ok
+      ▸ (x .number, x .fits, x .holds)
+      ▸ ok
+      ▸ ok
+      ▸ tt,
+  same-header h (ofDDMMYY n) (executionOf (x .number)) back (x .says),
+  rw (x .spelled, e),
+)
+
+pub header-says : Says header LegalHeader writeHeader
+header-says = record { fill = fill; told = told }
+  where
+    fill : (h : Header) → LegalHeader h → (r : Filled header) × (value header r ≡ h) × (bytes header r ≡ writeHeader h)
+    fill h l =
+        let i = see-day (h .made) (l .A7) in
+        let n : ℕ = toDDMMYY (h .made) in
+        let back = short-back (h .made) i (l .A7-year) in
+        let early = subst (λ (d : Day). d .year < 9999) back (short-year n .0) in
+        let x = executes (h .made) (h .execution) i early (l .A11b) in
+        from-number h l n refl back (short-fits (h .made) i) (rw back (l .A7)) (subst (λ (d : Day). Executes d (h .execution)) (sym back) x)
+
+    told : (r : Filled header) → (h : Header) × LegalHeader h × (value header r ≡ h) × (bytes header r ≡ writeHeader h)
+    told r =
+        let kind = r .1 .1 in
+        let bankCode = kind .1 in
+        let senderBank = bankCode .1 in
+        let sender = senderBank .1 in
+        let made = sender .1 in
+        let account = made .1 .1 in
+        let reference = account .1 in
+        let execution = reference .1 .1 in
+        let n : ℕ = made .0 .0 in
+        let i = see-day (ofDDMMYY n) (made .0 .2 .0) in (
+          value header r,
+          record {
+            A3 = and-both (eqb (length (kind .0 .0)) 2) (among fileKinds (kind .0 .0)) (kind .0 .1) .1;
+            A4 = ltb→lt (bankCode .0 .0) (10 ^ 8) (bankCode .0 .1);
+            A5 = ltb→lt (senderBank .0 .0) (10 ^ 8) (senderBank .0 .1);
+            A5-zero = senderBank .0 .2 .0;
+            A6 = fits-text (sender .0 .0) (sender .0 .1);
+            A7 = made .0 .2 .0;
+            A7-year = short-year n .1;
+            A9 = ltb→lt (account .0 .0) (10 ^ 10) (account .0 .1);
+            A10 = ltb→lt (reference .0 .0) (10 ^ 10) (reference .0 .1);
+            A11b = execution-legal (ofDDMMYY n) (execution .0 .0) i (short-year n .0) (execution .0 .2);
+          },
+          refl,
+          rw (short-there n, ← (execution-spelled (execution .0 .0))),
+        )

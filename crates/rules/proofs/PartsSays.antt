@@ -1,0 +1,105 @@
+-- The fields of the extension parts say what the rules say: filled parts are legal parts written out, section by section.
+use Prim.Native.Nat.{ℕ, zero, suc}
+use native.Mathlib.Omega.{arith}
+use mathlib.Core.Path.{_≡_, refl, ap, _∙_}
+use mathlib.Core.List.{List, [], _∷_, _++_, map, append-nil}
+use lib.ListN.{length, length-map}
+use lib.Dec.{T, leb}
+use Rattle.form.specs.Kind.{digits, Value, fixed, blanks, numeral}
+use Rattle.form.specs.Form.{rule, Form, ret, get, any, _>>=_, Filled, value, bytes}
+use Rattle.form.proofs.RulesLaws.{_▸_, Says, then-fill, then-told}
+use Rattle.rules.specs.Values.{Part}
+use Rattle.rules.specs.Rules.{All, Text}
+use Rattle.rules.specs.Writing.{section, toSectionEnd, toNextPart, writeParts}
+use Rattle.rules.specs.Fields.{Name, mark, words, text27, roomAfter, markOk, closingBlanks, parts}
+use Rattle.rules.proofs.MarkLaws.{Allowed, see-mark, show-mark, mark-fits, Walked}
+use Rattle.rules.proofs.FieldLaws.{text-fits, fits-text}
+
+-- ---- closing blanks
+
+abbrev Always : Value (fixed []) → Type 0
+Always u = Unit {0}
+
+pub closing-says : (s n : ℕ) → Says (closingBlanks s n) Always (λ u. blanks n)
+closing-says s zero = record { fill = λ u g. (tt, refl, refl); told = λ r. (tt, tt, refl, refl) }
+closing-says s (suc n) =
+    record { fill = λ u g. ((tt, tt, tt) ▸ tt, refl, append-nil (blanks (suc n))); told = λ r. (tt, tt, refl, append-nil (blanks (suc n))) }
+
+-- ---- parts
+
+abbrev pub markOf : Part → ℕ
+markOf q = q .mark
+
+abbrev pub LegalWords : Part → Type 0
+LegalWords q = Text (q .words)
+
+-- so many parts, for which there is room, with legal texts
+abbrev pub GoodParts : ℕ → ℕ → List Part → Type 0
+GoodParts left room ps = (length ps ≡ left) × Walked room (map markOf ps) × All LegalWords ps
+
+-- the last section is closed
+none-left : (i room : ℕ) → Says (parts zero i room) (GoodParts zero room) (writeParts i)
+unfolding parts
+none-left i room = record { fill = fill; told = told }
+  where
+    s : Says (closingBlanks (section i) (toSectionEnd i)) Always (λ u. blanks (toSectionEnd i))
+    s = closing-says (section i) (toSectionEnd i)
+
+    fill : (ps : List Part) → GoodParts zero room ps → (r : Filled (parts zero i room)) × (value (parts zero i room) r ≡ ps) × (bytes (parts zero i room) r ≡ writeParts i ps)
+    fill [] g =
+        let t = then-fill (closingBlanks (section i) (toSectionEnd i)) Always (λ u. blanks (toSectionEnd i)) s (λ u. ret []) tt tt tt in
+        (t.0, t.1, t.2 ∙ append-nil (blanks (toSectionEnd i)))
+    fill (q ∷ qs) g = absurd (omega arith)
+
+    told : (r : Filled (parts zero i room)) → (ps : List Part) × GoodParts zero room ps × (value (parts zero i room) r ≡ ps) × (bytes (parts zero i room) r ≡ writeParts i ps)
+    told r =
+        let t = then-told (closingBlanks (section i) (toSectionEnd i)) Always (λ u. blanks (toSectionEnd i)) s (λ u. ret []) r in
+        ([], (refl, tt, tt), t.3, t.4 ∙ append-nil (blanks (toSectionEnd i)))
+
+-- one part, and those that are left behind it
+module _ (left i room : ℕ) (says : (j x : ℕ) → Says (parts left j x) (GoodParts left x) (writeParts j)) where
+  abbrev close : ℕ → List ℕ → List Part → Form Name (List Part)
+  close m t ps = ret (record { mark = m; words = t } ∷ ps)
+
+  -- the fields behind the closing blanks
+  abbrev behind : Value (fixed []) → Form Name (List Part)
+  behind u =
+      get (mark (suc i)) (digits 2) (λ m. rule 13 (markOk room m) ∷ rule 13 (leb left (roomAfter m room)) ∷ []) >>= λ m.
+      any (words (suc i)) text27 >>= λ t. parts left (suc i) (roomAfter m room) >>= close m t
+
+  part-fill : (ps : List Part) → GoodParts (suc left) room ps
+      → (r : Filled (parts (suc left) i room)) × (value (parts (suc left) i room) r ≡ ps) × (bytes (parts (suc left) i room) r ≡ writeParts i ps)
+  unfolding parts
+  part-fill [] g = absurd (omega arith)
+  part-fill (q ∷ qs) g =
+      let e : length qs ≡ left = omega arith in
+      let a : Allowed room left (q .mark) = rw (length-map qs markOf, e) at (g .1 .0) in
+      let x = roomAfter (q .mark) room in
+      let d = then-fill (parts left (suc i) x) (GoodParts left x) (writeParts (suc i)) (says (suc i) x) (close (q .mark) (q .words)) qs (e, g .1 .1, g .2 .1) tt in
+      let m = show-mark a in
+      let t = then-fill (closingBlanks (section i) (toNextPart i)) Always (λ u. blanks (toNextPart i)) (closing-says (section i) (toNextPart i)) behind tt tt
+      ((q .mark, mark-fits a, (m.0, (m.1, tt))) ▸ (q .words, text-fits (q .words) (g .2 .0), tt) ▸ d.0) in
+      (t.0, t.1 ∙ d.1, t.2 ∙ ap (λ (l : List ℕ). blanks (toNextPart i) ++ (numeral 2 (q .mark) ++ (q .words ++ l))) d.2)
+
+  seen : (ps : List Part) (m : ℕ) → length ps ≡ left → T (markOk room m) → T (leb left (roomAfter m room)) → Allowed room (length (map markOf ps)) m
+  seen ps m e h k = rw (length-map ps markOf, e) (see-mark room left m h k)
+
+  part-told : (r : Filled (parts (suc left) i room))
+      → (ps : List Part) × GoodParts (suc left) room ps × (value (parts (suc left) i room) r ≡ ps) × (bytes (parts (suc left) i room) r ≡ writeParts i ps)
+  unfolding parts
+  part-told r =
+      let b = then-told (closingBlanks (section i) (toNextPart i)) Always (λ u. blanks (toNextPart i)) (closing-says (section i) (toNextPart i)) behind r in
+      let m = b .2 .0 in
+      let t = b .2 .1 .0 in
+      let x = roomAfter (m .0) room in
+      let d = then-told (parts left (suc i) x) (GoodParts left x) (writeParts (suc i)) (says (suc i) x) (close (m .0) (t .0)) (b .2 .1 .1) in (
+        (record { mark = m .0; words = t .0 } ∷ d.0),
+        (ap suc (d .1 .0), (seen d.0 (m .0) (d .1 .0) (m .2 .0) (m .2 .1 .0), d .1 .1), (fits-text (t .0) (t .1), d .1 .2)),
+        b.3 ∙ d.3,
+        b.4 ∙ ap (λ (l : List ℕ). blanks (toNextPart i) ++ (numeral 2 (m .0) ++ (t .0 ++ l))) d.4,
+      )
+
+pub parts-says : (left i room : ℕ) → Says (parts left i room) (GoodParts left room) (writeParts i)
+parts-says zero i room = none-left i room
+parts-says (suc left) i room =
+    record { fill = part-fill left i room (λ j x. parts-says left j x); told = part-told left i room (λ j x. parts-says left j x) }
