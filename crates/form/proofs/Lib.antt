@@ -1,5 +1,6 @@
 pub mod BoolLaws
 pub mod KindLaws
 pub mod ReaderLaws
+pub mod NumberLaws
 pub mod RulesLaws
 pub mod PlaceLaws

@@ -8,7 +8,7 @@ use mathlib.Core.Logic.{_≢_}
 use mathlib.Core.Bool.{Bool, true, false}
 use mathlib.Core.List.{List, [], _∷_, _++_, append-assoc}
 use mathlib.Core.Option.{some}
-use lib.ListN.{length, take, drop, length-append, take-append-drop}
+use lib.ListN.{length, take, drop, length-append, length-drop, take-append-drop}
 use lib.Seq.{take-at, drop-at, length-take-le, take-add}
 use lib.Dec.{T, leb, leb→le, le→leb}
 use Rattle.form.specs.Kind.{Kind, Value, width, fits, spell}
@@ -66,14 +66,14 @@ complete (field ν κ rs next) r =
     step ν κ rs next (spell κ v) (bytes (next v) (r .1)) (spell-length κ v (r .0 .1)) ∙ rw (settle-content κ rs (r .0), complete (next v) (r .1))
 
 -- what can be met at a field: too few bytes, a whole field that is refused, a content
-data Met {N A : Type 0} (ν : N) (κ : Kind) (rs : Value κ → List Rule) (next : Value κ → Form N A) (f : List ℕ) : Type 0 where
+pub data Met {N A : Type 0} (ν : N) (κ : Kind) (rs : Value κ → List Rule) (next : Value κ → Form N A) (f : List ℕ) : Type 0 where
   cut : run (field ν κ rs next) f ≡ refused (record { reason = short; place = 0; width = width κ; name = some ν }) → Met ν κ rs next f
   bad : (z : Reason) → width κ ≤ length f → settle κ rs (take (width κ) f) ≡ lacks z
       → run (field ν κ rs next) f ≡ refused (record { reason = z; place = 0; width = width κ; name = some ν }) → Met ν κ rs next f
   good : (v : Value κ) → width κ ≤ length f → settle κ rs (take (width κ) f) ≡ has v
       → run (field ν κ rs next) f ≡ later (width κ) (run (next v) (drop (width κ) f)) → Met ν κ rs next f
 
-meet : {N A : Type 0} (ν : N) (κ : Kind) (rs : Value κ → List Rule) (next : Value κ → Form N A) (f : List ℕ) → Met ν κ rs next f
+pub meet : {N A : Type 0} (ν : N) (κ : Kind) (rs : Value κ → List Rule) (next : Value κ → Form N A) (f : List ℕ) → Met ν κ rs next f
 unfolding run
 meet ν κ rs next f = by (leb w (length f)) (settle κ rs (take w f)) refl refl
   where
@@ -110,18 +110,18 @@ one-reading m r s e = let c = complete m r in let d = complete m s in let h = ap
 
 -- ---- the place of a refusal
 
-same-refusal : {N A : Type 0} (q r : Refusal N) → _≡_ {A = Answer N A} (refused q) (refused r) → q ≡ r
+pub same-refusal : {N A : Type 0} (q r : Refusal N) → _≡_ {A = Answer N A} (refused q) (refused r) → q ≡ r
 same-refusal q r e = cc
 
 -- a refusal after w bytes is a refusal of what follows them
-record Behind {N A : Type 0} (w : ℕ) (x : Answer N A) (r : Refusal N) : Type 0 where
-  there : Refusal N
-  given : x ≡ refused there
-  reason : r .reason ≡ there .reason
-  place : r .place ≡ w + there .place
-  width : r .width ≡ there .width
+pub record Behind {N A : Type 0} (w : ℕ) (x : Answer N A) (r : Refusal N) : Type 0 where
+  pub there : Refusal N
+  pub given : x ≡ refused there
+  pub reason : r .reason ≡ there .reason
+  pub place : r .place ≡ w + there .place
+  pub width : r .width ≡ there .width
 
-behind : {N A : Type 0} (w : ℕ) (x : Answer N A) (r : Refusal N) → later w x ≡ refused r → Behind w x r
+pub behind : {N A : Type 0} (w : ℕ) (x : Answer N A) (r : Refusal N) → later w x ≡ refused r → Behind w x r
 behind w (accepted b) r e = absurd (let c : _≡_ {A = ℕ} 0 1 = cc in omega arith)
 behind {N} w (refused q) r e =
     let h = same-refusal (record { reason = q .reason; place = w + q .place; width = q .width; name = q .name }) r e in
@@ -132,6 +132,21 @@ behind {N} w (refused q) r e =
       place = ap (λ (x : Refusal N). x .place) (sym h);
       width = ap (λ (x : Refusal N). x .width) (sym h);
     }
+
+-- it lies in the file, or at its end
+pub place-inside : {N A : Type 0} (m : Form N A) (f : List ℕ) (r : Refusal N) → run m f ≡ refused r → r .place ≤ length f
+unfolding run
+place-inside (ret b) [] r e = absurd (let c : _≡_ {A = ℕ} 0 1 = cc in omega arith)
+place-inside {N} (ret b) (x ∷ xs) r e = omega (arith, ap (λ (y : Refusal N). y .place) (sym (same-refusal _ r e)))
+place-inside {N} (field ν κ rs next) f r e =
+    elim (meet ν κ rs next f) [
+      | cut c ↦ omega (arith, ap (λ (y : Refusal N). y .place) (sym (same-refusal _ r (sym c ∙ e))))
+      | bad z l j c ↦ omega (arith, ap (λ (y : Refusal N). y .place) (sym (same-refusal _ r (sym c ∙ e))))
+      | good v l j c ↦
+          let k = behind (width κ) (run (next v) (drop (width κ) f)) r (sym c ∙ e) in
+          let i = place-inside (next v) (drop (width κ) f) (k .there) (k .given) in
+          omega (arith, k .place, length-drop (width κ) f)
+    ]
 
 -- ---- the bytes ahead of the refused field
 

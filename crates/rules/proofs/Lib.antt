@@ -7,6 +7,9 @@ pub mod PartsSays
 pub mod PaymentSays
 pub mod FileSays
 pub mod SumLaws
+pub mod LayoutLaws
 pub mod Viability
+pub mod Numbers
+pub mod Demand1
 pub mod Demand2
 pub mod Demand3

@@ -45,10 +45,6 @@ writeHeader h =
 
 -- ---- C
 
--- the length that C1 tells: the fixed fields and k parts, without the blanks that close a section
-abbrev pub lengthOf : ℕ → ℕ
-lengthOf k = 187 + 29 * k
-
 -- the section in which part i stands: the second takes 2 parts, the third to fifth 4 each, the sixth 1 (part 0: C18, with which the second
 -- section goes on)
 abbrev pub section : ℕ → ℕ
@@ -65,6 +61,10 @@ toSectionEnd i = cond (leb i 2) (69 - 29 * i) (128 - 29 * ((i - 3) % 4 + 1))
 -- the blanks between part i and a next one
 unfoldable pub toNextPart : ℕ → ℕ
 toNextPart i = cond (fillsSection i) (toSectionEnd i) 0
+
+-- the length that C1 tells: the fixed fields and k parts, without the blanks that close a section
+abbrev pub lengthOf : ℕ → ℕ
+lengthOf k = 187 + 29 * k
 
 -- the parts behind part i, and the blanks that close each section
 abbrev pub writeParts : ℕ → List Part → List ℕ
