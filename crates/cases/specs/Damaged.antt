@@ -3,7 +3,7 @@ use Prim.Native.Nat.{ℕ}
 use Prim.Native.String.{String}
 use mathlib.Core.Path.{_≡_, refl}
 use mathlib.Core.List.{List, [], _∷_, _++_, map}
-use mathlib.Core.Option.{Option, none, some}
+use mathlib.Core.Option.{none, some}
 use lib.ListN.{take}
 use Rattle.form.specs.Kind.{blanks}
 use Rattle.form.specs.Reader.{Reason, short, not-fixed, not-digit, not-sign, breaks, surplus, Refusal, Answer, refused}

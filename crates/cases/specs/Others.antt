@@ -3,7 +3,7 @@ use Prim.Native.Nat.{ℕ, zero, suc}
 use Prim.Native.String.{String}
 use mathlib.Core.Path.{_≡_, refl}
 use mathlib.Core.List.{List, [], _∷_, _++_, map}
-use lib.ListN.{take, drop}
+use lib.ListN.{take}
 use Rattle.form.specs.Kind.{blanks}
 use Rattle.rules.specs.Signs.{ascii}
 use Rattle.rules.specs.Writing.{inTurn}

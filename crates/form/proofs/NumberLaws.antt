@@ -4,12 +4,12 @@ use native.Mathlib.Omega.{arith}
 use mathlib.Core.Path.{_≡_, refl, sym, ap, _∙_}
 use mathlib.Core.Bool.{Bool, true, false}
 use mathlib.Core.List.{List, [], _∷_}
-use lib.ListN.{length, take, drop}
-use lib.Dec.{T, leb}
+use lib.ListN.{take, drop}
+use lib.Dec.{T}
 use Rattle.form.specs.Kind.{Kind, fixed, digits, maybe, text, choice, Value, width, every, same, among, blanks}
-use Rattle.form.specs.Form.{Rule, rule, Form, ret, field, fork, _>>=_, Filled, value}
-use Rattle.form.specs.Reader.{Reason, not-fixed, not-digit, not-sign, breaks, Refusal, Answer, accepted, refused, Look, has, lacks, ifSo, digit, number, optional, judge, obey, _then_, settle, ifWhole, look, later, onward, run}
-use Rattle.form.proofs.ReaderLaws.{Met, cut, bad, good, meet, same-refusal, Behind, behind}
+use Rattle.form.specs.Form.{Rule, rule, Form, ret, field, fork, _>>=_}
+use Rattle.form.specs.Reader.{Reason, not-fixed, not-digit, not-sign, breaks, Refusal, refused, Look, has, lacks, ifSo, digit, number, optional, judge, obey, _then_, settle, run}
+use Rattle.form.proofs.ReaderLaws.{cut, bad, good, meet, same-refusal, behind}
 
 -- each rule has such a number
 abbrev pub NumberedRules : (ℕ → Bool) → List Rule → Type 0

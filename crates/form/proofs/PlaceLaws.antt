@@ -1,8 +1,8 @@
 -- The laws of the reader at a place: forms one after another are read one after another, and a whole file is read from its first byte.
 use Prim.Native.Nat.{ℕ, _+_, _≤_}
-use native.Mathlib.Nat.{zero-add, add-zero, add-assoc}
+use native.Mathlib.Nat.{add-zero}
 use native.Mathlib.Omega.{arith}
-use mathlib.Core.Path.{_≡_, refl, _∙_}
+use mathlib.Core.Path.{_≡_, refl, ap, _∙_}
 use mathlib.Core.Bool.{Bool, true, false}
 use mathlib.Core.List.{List}
 use lib.ListN.{length, take, drop, length-drop, drop-of-length-le}
@@ -11,7 +11,7 @@ use lib.Dec.{leb}
 use borrow.Author.Tests.{le-leb, lt-leb, leb-true, leb-false}
 use Rattle.form.specs.Kind.{Kind, Value, width}
 use Rattle.form.specs.Form.{Rule, Form, ret, field, _>>=_}
-use Rattle.form.specs.Reader.{Answer, accepted, refused, Look, has, lacks, _then_, judge, obey, settle, ifWhole, look, later, onward, run}
+use Rattle.form.specs.Reader.{Refusal, Answer, accepted, refused, Look, has, lacks, _then_, judge, obey, settle, ifWhole, look, later, onward, run}
 use Rattle.form.specs.Place.{lookAt, fieldAt, done, goOn, readAt, andThen, ifOver, over}
 
 -- ---- one form after another
@@ -28,14 +28,17 @@ read-bind {N} {A} {B} (field ν κ rs next) k f p = by (fieldAt κ rs f p) (λ v
 
 -- ---- the whole file
 
--- the same answer, no bytes further on
+-- the same refusal at another place
+abbrev placed : {N A : Type 0} → Refusal N → ℕ → Answer N A
+placed r p = refused (record { reason = r .reason; place = p; width = r .width; name = r .name })
+
 later-zero : {N A : Type 0} (x : Answer N A) → x ≡ later 0 x
 later-zero (accepted a) = refl
-later-zero (refused r) = rw (zero-add (r .place))
+later-zero (refused r) = ap (placed r) (omega arith)
 
 later-add : {N A : Type 0} (m n : ℕ) (x : Answer N A) → later m (later n x) ≡ later (m + n) x
 later-add m n (accepted a) = refl
-later-add m n (refused r) = rw (add-assoc m n (r .place))
+later-add m n (refused r) = ap (placed r) (omega arith)
 
 same-test : (w p : ℕ) (f : List ℕ) → p ≤ length f → leb w (length (drop p f)) ≡ leb (p + w) (length f)
 same-test w p f h = by (leb (p + w) (length f)) refl

@@ -1,6 +1,6 @@
 -- Demand 2, for the figures: count and totals are the number and the sums of the one reading's payments, and 0 where the file is refused.
 use Prim.Native.Nat.{ℕ}
-use mathlib.Core.Path.{_≡_, refl}
+use mathlib.Core.Path.{_≡_}
 use mathlib.Core.List.{List}
 use Rattle.form.specs.Reader.{Refusal, refused}
 use Rattle.rules.specs.Values.{noTotals, totals}

@@ -1,12 +1,10 @@
 -- What single fields owe: the contents that legal values give them, and the legal values that their contents are.
-use Prim.Native.Nat.{ℕ, _+_, _-_, _*_, _/_, _%_, _^_, _≤_, _<_}
-use native.Mathlib.Omega.{arith}
-use mathlib.Core.Path.{_≡_, refl, sym, ap, _∙_}
+use Prim.Native.Nat.{ℕ}
 use mathlib.Core.Logic.{inl, inr}
-use mathlib.Core.Bool.{Bool, true, false, _&&_, _||_, cond}
+use mathlib.Core.Bool.{Bool, true, false, _&&_}
 use mathlib.Core.List.{List, [], _∷_}
 use lib.ListN.{length}
-use lib.Dec.{T, leb, ltb, eqb, leb→le, ltb→lt, lt→ltb, eqb→eq, eqb-refl}
+use lib.Dec.{T, ltb, eqb, eqb→eq}
 use Rattle.form.specs.Kind.{every, same, among}
 use Rattle.form.proofs.BoolLaws.{and-both, and-of, or-cases}
 use Rattle.form.proofs.KindLaws.{same-eq}

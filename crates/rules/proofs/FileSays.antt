@@ -1,98 +1,23 @@
 -- The fields of a whole file say what the rules say: a filled form is a legal document written out, and the other way round.
-use Prim.Native.Nat.{ℕ, zero, suc, _+_, _-_, _*_, _%_, _^_, _≤_, _<_}
+use Prim.Native.Nat.{ℕ, zero, suc, _+_, _^_, _≤_, _<_}
 use native.Mathlib.Nat.{add-zero, zero-add}
 use native.Mathlib.Omega.{arith}
-use mathlib.Core.Path.{_≡_, refl, sym, ap, _∙_}
-use mathlib.Core.Bool.{Bool, true, false, _&&_, _||_, not}
+use mathlib.Core.Path.{_≡_, refl, _∙_}
+use mathlib.Core.Bool.{not}
 use mathlib.Core.List.{List, [], _∷_, _++_, append-assoc, append-nil}
 use lib.ListN.{length}
-use lib.Dec.{T, leb, ltb, eqb, leb→le, ltb→lt, le→leb, lt→ltb, eqb→eq, eqb-refl}
+use lib.Dec.{T, eqb, lt→ltb, eqb→eq}
 use borrow.Author.Tests.{ne-eqb}
 use Rattle.form.specs.Kind.{numeral}
 use Rattle.form.specs.Form.{Holds, Form, ret, fork, _>>=_, Filled, value, bytes}
-use Rattle.form.proofs.BoolLaws.{and-both, and-of, or-left}
-use Rattle.form.proofs.RulesLaws.{_▸_, Says, then-fill, then-told, fork-no, fork-see}
-use Rattle.rules.specs.Values.{Header, Payment, Document, Totals, noTotals, adding, sumOf, totals}
-use Rattle.rules.specs.Rules.{All, mostPayments, mostCents, sumLimit, notZero, LegalHeader, LegalPayment, Legal}
+use Rattle.form.proofs.RulesLaws.{Says, then-fill, then-told, fork-no, fork-see}
+use Rattle.rules.specs.Values.{Header, Payment, Document, Totals, noTotals, adding, totals}
+use Rattle.rules.specs.Rules.{All, mostPayments, mostCents, sumLimit, LegalHeader, LegalPayment, Legal}
 use Rattle.rules.specs.Writing.{lengthOf, writeHeader, writeBody, writePayments, writeFigures, writeEnd, write}
-use Rattle.rules.specs.Fields.{Name, header, payment, end, isLength, firstField, payments, document}
+use Rattle.rules.specs.Fields.{Name, header, payment, end, firstField, payments, document}
 use Rattle.rules.proofs.HeaderSays.{header-says}
 use Rattle.rules.proofs.PaymentSays.{GoodPayment, few-parts, payment-says}
-
--- ---- E
-
--- totals that E can hold
-pub record Within (t : Totals) : Type 0 where
-  pub accounts : t .accounts < sumLimit
-  pub bankCodes : t .bankCodes < sumLimit
-  pub cents : t .cents ≤ mostCents
-
-end-fill : (t : Totals) → t .count ≤ mostPayments → Within t → (r : Filled (end t)) × (value (end t) r ≡ []) × (bytes (end t) r ≡ writeFigures t)
-end-fill t h w = (
-  (tt, tt, tt)
-      ▸ (tt, tt, tt)
-      ▸ (t .count, lt→ltb (t .count) (10 ^ 7) (omega arith), (eqb-refl (t .count), tt))
-      ▸ (tt, tt, tt)
-      ▸ (t .accounts, lt→ltb (t .accounts) (10 ^ 17) (w .accounts), (eqb-refl (t .accounts), tt))
-      ▸ (t .bankCodes, lt→ltb (t .bankCodes) (10 ^ 17) (w .bankCodes), (eqb-refl (t .bankCodes), tt))
-      ▸ (t .cents, lt→ltb (t .cents) (10 ^ 13) (omega (arith, w .cents)), (eqb-refl (t .cents), tt))
-      ▸ (tt, tt, tt)
-      ▸ tt,
-  refl,
-  refl,
-)
-
-end-told : (t : Totals) (r : Filled (end t)) → (value (end t) r ≡ []) × (bytes (end t) r ≡ writeFigures t)
-end-told t r =
-    let count = r .1 .1 in
-    let accounts = count .1 .1 in
-    let bankCodes = accounts .1 in
-    let cents = bankCodes .1 in (
-      refl,
-      rw (
-        eqb→eq (count .0 .0) (t .count) (count .0 .2 .0),
-        eqb→eq (accounts .0 .0) (t .accounts) (accounts .0 .2 .0),
-        eqb→eq (bankCodes .0 .0) (t .bankCodes) (bankCodes .0 .2 .0),
-        eqb→eq (cents .0 .0) (t .cents) (cents .0 .2 .0),
-      ),
-    )
-
--- ---- the first field after A or a C
-
-pub length-is : (k : ℕ) → k ≤ 15 → T (isLength (lengthOf k))
-length-is k h =
-    and-of (leb 187 (lengthOf k) && leb (lengthOf k) 622) (eqb ((lengthOf k - 187) % 29) 0)
-    (and-of (leb 187 (lengthOf k)) (leb (lengthOf k) 622) (omega (arith, le→leb)) (omega (arith, le→leb))) (rw (whole k) tt)
-  where
-    whole : (k : ℕ) → (187 + 29 * k - 187) % 29 ≡ 0
-    whole k = omega arith
-
--- E may begin, a C may begin
-pub end-begins : (t : Totals) → 1 ≤ t .count → Holds (firstField t 128)
-end-begins t h = (or-left (leb 1 (t .count)) false (le→leb 1 (t .count) h), (tt, (tt, tt)))
-
-pub payment-begins : (t : Totals) (k : ℕ) → k ≤ 15 → t .count < mostPayments → t .cents < mostCents → Holds (firstField t (lengthOf k))
-payment-begins t k h n c =
-    rw (ne-eqb (lengthOf k) 128 (omega arith)) (length-is k h, (lt→ltb (t .count) mostPayments n, (lt→ltb (t .cents) mostCents c, tt)))
-
-or-first : (b : Bool) → T (b || false) → T b
-or-first true t = tt
-or-first false t = absurd t
-
-end-some : (t : Totals) (l : ℕ) → l ≡ 128 → Holds (firstField t l) → 1 ≤ t .count
-end-some t l e h = leb→le 1 (t .count) (or-first (leb 1 (t .count)) (rw e at (h .0)))
-
--- where no C may begin, E does
-must-end : (t : Totals) (l : ℕ) → mostPayments ≤ t .count → Holds (firstField t l) → l ≡ 128
-must-end t l m h = by (ltb (t .count) mostPayments) (λ b. omega (arith, m, ltb→lt (t .count) mostPayments b)) (h .1 .0)
-  where
-    by : (b : Bool) → (T b → ⊥) → T (eqb l 128 || b) → l ≡ 128
-    by true n t = absurd (n tt)
-    by false n t = eqb→eq l 128 (or-first (eqb l 128) t)
-
-pub some-cents : (v : ℕ) → T (notZero v) → 1 ≤ v
-some-cents zero h = absurd h
-some-cents (suc v) h = omega arith
+use Rattle.rules.proofs.EndSays.{Within, end-fill, end-told, end-begins, payment-begins, end-some, must-end, some-cents}
 
 -- ---- the payments still to come, after payments that come to t
 
@@ -277,6 +202,9 @@ rest-all ps =
     let u = totals ps in
     rw (append-assoc (writePayments ps), zero-add (u .count), zero-add (u .accounts), zero-add (u .bankCodes), zero-add (u .cents))
 
+whole : (h : Header) (ps : List Payment) (x y : List ℕ) → x ≡ writeHeader h ++ y → y ≡ rest noTotals ps ++ [] → x ≡ write (record { header = h; payments = ps })
+whole h ps x y d e = rw (d, e, rest-all ps)
+
 pub document-says : Says document Legal write
 unfolding document
 document-says = record { fill = fill; told = told }
@@ -306,7 +234,7 @@ document-says = record { fill = fill; told = told }
         } in
         let t = then-fill (payments mostPayments kind noTotals) (GoodFrom mostPayments kind noTotals) (rest noTotals) (all kind) (close h) ps q tt in
         let s = then-fill header LegalHeader writeHeader header-says onward h (g .header) t.0 in
-        (s.0, s.1 ∙ t.1, s.2 ∙ ap (λ (l : List ℕ). writeHeader h ++ l) (t.2 ∙ rest-all ps))
+        (s.0, s.1 ∙ t.1, whole h ps (bytes document s.0) (bytes (onward h) t.0) s.2 t.2)
 
     told : (r : Filled document) → (d : Document) × Legal d × (value document r ≡ d) × (bytes document r ≡ write d)
     told r =
@@ -326,5 +254,5 @@ document-says = record { fill = fill; told = told }
             cents = omega (arith, g .cents);
           },
           x.3 ∙ y.3,
-          x.4 ∙ ap (λ (l : List ℕ). writeHeader h ++ l) (y.4 ∙ rest-all y.0),
+          whole h y.0 (bytes document r) (bytes (onward h) x.2) x.4 y.4,
         )

@@ -1,16 +1,14 @@
 -- The fields of A say what the rules say: a filled A is a legal header written out, and the other way round.
 use Prim.Native.Nat.{ℕ, _^_, _<_}
-use mathlib.Core.Path.{_≡_, refl, sym, ap, _∙_, subst}
+use mathlib.Core.Path.{_≡_, refl, sym, ap, subst}
 use mathlib.Core.Option.{Option, none, some}
-use mathlib.Core.Bool.{_&&_}
-use mathlib.Core.List.{List}
 use lib.ListN.{length}
-use lib.Dec.{T, ltb, eqb, ltb→lt, lt→ltb}
+use lib.Dec.{T, eqb, ltb→lt, lt→ltb}
 use Rattle.form.specs.Kind.{maybe, fits, spell, among}
 use Rattle.form.specs.Form.{Holds, Filled, value, bytes}
 use Rattle.form.proofs.BoolLaws.{and-both}
 use Rattle.form.proofs.RulesLaws.{_▸_, Says}
-use Rattle.rules.specs.Calendar.{Day, isDay, inSpan, ofDDMMYY, toDDMMYY, toDDMMYYYY, ofDDMMYYYY}
+use Rattle.rules.specs.Calendar.{Day, isDay, ofDDMMYY, toDDMMYY, toDDMMYYYY, ofDDMMYYYY}
 use Rattle.rules.specs.Values.{Header}
 use Rattle.rules.specs.Rules.{fileKinds, LegalExecution, LegalHeader}
 use Rattle.rules.specs.Writing.{writeExecution, writeHeader}

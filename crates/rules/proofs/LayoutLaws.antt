@@ -2,19 +2,19 @@
 use Prim.Native.Nat.{ℕ, zero, suc, _+_, _-_, _*_, _≤_, _<_}
 use native.Mathlib.Omega.{arith}
 use native.Mathlib.Decide.{decLt}
-use mathlib.Core.Path.{_≡_, refl, sym, ap, _∙_}
+use mathlib.Core.Path.{_≡_, refl}
 use mathlib.Core.Option.{Option, none, some}
-use mathlib.Core.Bool.{Bool, _&&_}
-use mathlib.Core.List.{List, [], _∷_, _++_}
+use mathlib.Core.Bool.{Bool}
+use mathlib.Core.List.{List, [], _∷_}
 use lib.ListN.{length, length-append, length-replicate}
 use lib.Dec.{T, eqb, eqb→eq}
-use Rattle.form.specs.Kind.{numeral, every, among}
+use Rattle.form.specs.Kind.{every, among}
 use Rattle.form.proofs.BoolLaws.{and-both}
 use Rattle.form.proofs.KindLaws.{numeral-length}
 use Rattle.rules.specs.Calendar.{Day}
 use Rattle.rules.specs.Values.{Header, Part, Payment, Totals}
 use Rattle.rules.specs.Rules.{All, Text, fileKinds, LegalHeader, LegalPayment}
-use Rattle.rules.specs.Writing.{section, toSectionEnd, toNextPart, lengthOf, writeExecution, writeHeader, writeParts, writeBody, writePayment, writeEnd}
+use Rattle.rules.specs.Writing.{section, toSectionEnd, toNextPart, writeExecution, writeHeader, writeParts, writePayment, writeEnd}
 use Rattle.rules.proofs.FieldLaws.{kind-fits}
 use Rattle.rules.proofs.PaymentSays.{few-parts}
 

@@ -5,6 +5,7 @@ pub mod FieldLaws
 pub mod HeaderSays
 pub mod PartsSays
 pub mod PaymentSays
+pub mod EndSays
 pub mod FileSays
 pub mod SumLaws
 pub mod LayoutLaws

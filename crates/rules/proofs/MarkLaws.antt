@@ -4,12 +4,12 @@ use native.Mathlib.Omega.{arith}
 use native.Mathlib.Decide.{decLe}
 use mathlib.Core.Path.{_≡_, refl}
 use mathlib.Core.Logic.{_⊎_, inl, inr}
-use mathlib.Core.Bool.{Bool, true, false, _&&_, _||_}
+use mathlib.Core.Bool.{false, _&&_, _||_}
 use mathlib.Core.List.{List, [], _∷_}
 use lib.ListN.{length}
 use lib.Dec.{T, leb, ltb, eqb, leb→le, le→leb, eqb→eq}
 use borrow.Author.Tests.{ne-eqb}
-use Rattle.form.proofs.BoolLaws.{and-both, and-of, or-cases, or-left}
+use Rattle.form.proofs.BoolLaws.{and-both, or-cases, or-left}
 use Rattle.rules.specs.Rules.{All, howMany, NeverDescending, LegalMarks}
 use Rattle.rules.specs.Fields.{roomAfter, markOk}
 
@@ -21,31 +21,31 @@ pub data Allowed : ℕ → ℕ → ℕ → Type 0 where
   purpose : {room left : ℕ} → 2 ≤ room → left ≤ min room 14 - 1 → Allowed room left 2
   sender : {room : ℕ} → 1 ≤ room → Allowed room 0 3
 
-pub see-mark : (room left m : ℕ) → T (markOk room m) → T (leb left (roomAfter m room)) → Allowed room left m
+pub see-mark : (room left m : ℕ) → T (markOk room m) → left ≤ roomAfter m room → Allowed room left m
 see-mark room left m t l = by (or-cases (eqb m 1 && eqb room 15) _ t)
   where
     by-other : T (eqb m 2 && leb 2 room) ⊎ T (eqb m 3 && leb 1 room) → Allowed room left m
     by-other (inl p) =
         let a = and-both (eqb m 2) (leb 2 room) p in
         let e = eqb→eq m 2 a.0 in
-        rw e (purpose (leb→le 2 room a.1) (leb→le left (min room 14 - 1) (rw e at l)))
+        rw e (purpose (leb→le 2 room a.1) (rw e at l))
     by-other (inr p) =
         let a = and-both (eqb m 3) (leb 1 room) p in
         let e = eqb→eq m 3 a.0 in
-        let none : left ≡ 0 = omega (arith, leb→le left 0 (rw e at l)) in
+        let none : left ≡ 0 = let h : left ≤ 0 = rw e at l in omega arith in
         rw (e, none) (sender (leb→le 1 room a.1))
 
     by : T (eqb m 1 && eqb room 15) ⊎ T ((eqb m 2 && leb 2 room) || (eqb m 3 && leb 1 room)) → Allowed room left m
     by (inl p) =
         let a = and-both (eqb m 1) (eqb room 15) p in
         let e = eqb→eq m 1 a.0 in
-        rw (e, eqb→eq room 15 a.1) (beneficiary (leb→le left 14 (rw e at l)))
+        rw (e, eqb→eq room 15 a.1) (beneficiary (rw e at l))
     by (inr p) = by-other (or-cases (eqb m 2 && leb 2 room) _ p)
 
-pub show-mark : {room left m : ℕ} → Allowed room left m → T (markOk room m) × T (leb left (roomAfter m room))
-show-mark (beneficiary {left = n} h) = (tt, le→leb n 14 h)
-show-mark (purpose {room = r} {left = n} h k) = (or-left (leb 2 r) false (le→leb 2 r h), le→leb n (min r 14 - 1) k)
-show-mark (sender {room = r} h) = (le→leb 1 r h, tt)
+pub show-mark : {room left m : ℕ} → Allowed room left m → T (markOk room m) × (left ≤ roomAfter m room)
+show-mark (beneficiary h) = (tt, h)
+show-mark (purpose {room = r} h k) = (or-left (leb 2 r) false (le→leb 2 r h), k)
+show-mark (sender {room = r} h) = (le→leb 1 r h, omega arith)
 
 pub mark-fits : {room left m : ℕ} → Allowed room left m → T (ltb m 100)
 mark-fits (beneficiary h) = tt
@@ -160,7 +160,7 @@ legal-from room (m ∷ ms) h w = legal-more ms refl h w.0 (legal-from (roomAfter
 pub walked-legal : (ms : List ℕ) → Walked 15 ms → LegalMarks ms
 walked-legal ms w =
     let f = legal-from 15 ms (omega arith) w in
-    record { each = f .each; order = f .order; once-01 = f .once-01; times-02 = f .times-02; once-03 = f .once-03 }
+    record { each = f .each; order = f .order; once-01 = omega arith; times-02 = omega arith; once-03 = omega arith }
 
 -- ---- legal, they can be walked through
 
@@ -188,7 +188,7 @@ walked-from room (m ∷ ms) h f =
 
 pub legal-walked : (ms : List ℕ) → LegalMarks ms → Walked 15 ms
 legal-walked ms l =
-    walked-from 15 ms (omega arith) (record { each = l .each; order = l .order; once-01 = l .once-01; times-02 = l .times-02; once-03 = l .once-03 })
+    walked-from 15 ms (omega arith) (record { each = l .each; order = l .order; once-01 = omega arith; times-02 = omega arith; once-03 = omega arith })
 
 -- at most 15 parts
 pub legal-length : (ms : List ℕ) → LegalMarks ms → length ms ≤ 15

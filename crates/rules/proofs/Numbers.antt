@@ -2,7 +2,7 @@
 use Prim.Native.Nat.{ℕ, zero, suc}
 use mathlib.Core.Option.{Option, none, some}
 use mathlib.Core.Bool.{Bool, _&&_}
-use mathlib.Core.List.{List, _∷_}
+use mathlib.Core.List.{List}
 use lib.Dec.{leb, eqb}
 use Rattle.form.specs.Form.{Form, ret, _>>=_}
 use Rattle.form.proofs.RulesLaws.{_▸_}

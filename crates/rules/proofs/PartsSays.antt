@@ -1,11 +1,11 @@
 -- The fields of the extension parts say what the rules say: filled parts are legal parts written out, section by section.
-use Prim.Native.Nat.{ℕ, zero, suc}
+use Prim.Native.Nat.{ℕ, zero, suc, _≤_}
 use native.Mathlib.Omega.{arith}
 use mathlib.Core.Path.{_≡_, refl, ap, _∙_}
 use mathlib.Core.List.{List, [], _∷_, _++_, map, append-nil}
 use lib.ListN.{length, length-map}
-use lib.Dec.{T, leb}
-use Rattle.form.specs.Kind.{digits, Value, fixed, blanks, numeral}
+use lib.Dec.{T, leb, leb→le, le→leb}
+use Rattle.form.specs.Kind.{digits, Value, fixed, blanks}
 use Rattle.form.specs.Form.{rule, Form, ret, get, any, _>>=_, Filled, value, bytes}
 use Rattle.form.proofs.RulesLaws.{_▸_, Says, then-fill, then-told}
 use Rattle.rules.specs.Values.{Part}
@@ -67,37 +67,53 @@ module _ (left i room : ℕ) (says : (j x : ℕ) → Says (parts left j x) (Good
       get (mark (suc i)) (digits 2) (λ m. rule 13 (markOk room m) ∷ rule 13 (leb left (roomAfter m room)) ∷ []) >>= λ m.
       any (words (suc i)) text27 >>= λ t. parts left (suc i) (roomAfter m room) >>= close m t
 
+  -- a part fills in its two fields, s fills in what is behind them
+  with-part : (q : Part) (qs : List Part) → Allowed room left (q .mark) → LegalWords q
+      → (s : Filled (parts left (suc i) (roomAfter (q .mark) room) >>= close (q .mark) (q .words)))
+      → value (parts left (suc i) (roomAfter (q .mark) room) >>= close (q .mark) (q .words)) s ≡ q ∷ qs
+      → bytes (parts left (suc i) (roomAfter (q .mark) room) >>= close (q .mark) (q .words)) s ≡ writeParts (suc i) qs ++ []
+      → (r : Filled (behind tt)) × (value (behind tt) r ≡ q ∷ qs) × (blanks (toNextPart i) ++ bytes (behind tt) r ≡ writeParts i (q ∷ qs))
+  with-part q qs a t s v b =
+      let m = show-mark a in
+      ((q .mark, mark-fits a, (m.0, (omega (arith, le→leb), tt))) ▸ (q .words, text-fits (q .words) t, tt) ▸ s, v, rw b)
+
   part-fill : (ps : List Part) → GoodParts (suc left) room ps
       → (r : Filled (parts (suc left) i room)) × (value (parts (suc left) i room) r ≡ ps) × (bytes (parts (suc left) i room) r ≡ writeParts i ps)
   unfolding parts
   part-fill [] g = absurd (omega arith)
   part-fill (q ∷ qs) g =
       let e : length qs ≡ left = omega arith in
-      let a : Allowed room left (q .mark) = rw (length-map qs markOf, e) at (g .1 .0) in
       let x = roomAfter (q .mark) room in
       let d = then-fill (parts left (suc i) x) (GoodParts left x) (writeParts (suc i)) (says (suc i) x) (close (q .mark) (q .words)) qs (e, g .1 .1, g .2 .1) tt in
-      let m = show-mark a in
-      let t = then-fill (closingBlanks (section i) (toNextPart i)) Always (λ u. blanks (toNextPart i)) (closing-says (section i) (toNextPart i)) behind tt tt
-      ((q .mark, mark-fits a, (m.0, (m.1, tt))) ▸ (q .words, text-fits (q .words) (g .2 .0), tt) ▸ d.0) in
-      (t.0, t.1 ∙ d.1, t.2 ∙ ap (λ (l : List ℕ). blanks (toNextPart i) ++ (numeral 2 (q .mark) ++ (q .words ++ l))) d.2)
+      let p = with-part q qs (rw (length-map qs markOf, e) at (g .1 .0)) (g .2 .0) d.0 d.1 d.2 in
+      after-blanks p.0 (q ∷ qs) p.1 p.2
+    where
+      after-blanks : (r : Filled (behind tt)) (ps : List Part) → value (behind tt) r ≡ ps → blanks (toNextPart i) ++ bytes (behind tt) r ≡ writeParts i ps
+          → (t : Filled (parts (suc left) i room)) × (value (parts (suc left) i room) t ≡ ps) × (bytes (parts (suc left) i room) t ≡ writeParts i ps)
+      after-blanks r ps v b =
+          let t = then-fill (closingBlanks (section i) (toNextPart i)) Always (λ u. blanks (toNextPart i)) (closing-says (section i) (toNextPart i)) behind tt tt r in
+          (t.0, t.1 ∙ v, t.2 ∙ b)
 
-  seen : (ps : List Part) (m : ℕ) → length ps ≡ left → T (markOk room m) → T (leb left (roomAfter m room)) → Allowed room (length (map markOf ps)) m
+  seen : (ps : List Part) (m : ℕ) → length ps ≡ left → T (markOk room m) → left ≤ roomAfter m room → Allowed room (length (map markOf ps)) m
   seen ps m e h k = rw (length-map ps markOf, e) (see-mark room left m h k)
+
+  -- and the other way round
+  from-part : (r : Filled (behind tt)) → (ps : List Part) × GoodParts (suc left) room ps × (value (behind tt) r ≡ ps) × (blanks (toNextPart i) ++ bytes (behind tt) r ≡ writeParts i ps)
+  from-part r =
+      let m = r .0 in
+      let t = r .1 .0 in
+      let x = roomAfter (m .0) room in
+      let d = then-told (parts left (suc i) x) (GoodParts left x) (writeParts (suc i)) (says (suc i) x) (close (m .0) (t .0)) (r .1 .1) in
+      let a = seen d.0 (m .0) (d .1 .0) (m .2 .0) (leb→le left x (m .2 .1 .0)) in
+      (record { mark = m .0; words = t .0 } ∷ d.0, (ap suc (d .1 .0), (a, d .1 .1), (fits-text (t .0) (t .1), d .1 .2)), d.3, rw d.4)
 
   part-told : (r : Filled (parts (suc left) i room))
       → (ps : List Part) × GoodParts (suc left) room ps × (value (parts (suc left) i room) r ≡ ps) × (bytes (parts (suc left) i room) r ≡ writeParts i ps)
   unfolding parts
   part-told r =
       let b = then-told (closingBlanks (section i) (toNextPart i)) Always (λ u. blanks (toNextPart i)) (closing-says (section i) (toNextPart i)) behind r in
-      let m = b .2 .0 in
-      let t = b .2 .1 .0 in
-      let x = roomAfter (m .0) room in
-      let d = then-told (parts left (suc i) x) (GoodParts left x) (writeParts (suc i)) (says (suc i) x) (close (m .0) (t .0)) (b .2 .1 .1) in (
-        (record { mark = m .0; words = t .0 } ∷ d.0),
-        (ap suc (d .1 .0), (seen d.0 (m .0) (d .1 .0) (m .2 .0) (m .2 .1 .0), d .1 .1), (fits-text (t .0) (t .1), d .1 .2)),
-        b.3 ∙ d.3,
-        b.4 ∙ ap (λ (l : List ℕ). blanks (toNextPart i) ++ (numeral 2 (m .0) ++ (t .0 ++ l))) d.4,
-      )
+      let p = from-part b.2 in
+      (p.0, p.1, b.3 ∙ p.2, b.4 ∙ p.3)
 
 pub parts-says : (left i room : ℕ) → Says (parts left i room) (GoodParts left room) (writeParts i)
 parts-says zero i room = none-left i room

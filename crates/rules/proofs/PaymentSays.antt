@@ -4,7 +4,7 @@ use native.Mathlib.Omega.{arith}
 use mathlib.Core.Path.{_≡_, refl, ap, _∙_}
 use mathlib.Core.List.{List, [], _++_, map}
 use lib.ListN.{length, length-map}
-use lib.Dec.{leb, ltb, eqb, leb→le, ltb→lt, le→leb, lt→ltb, eqb→eq, eqb-refl}
+use lib.Dec.{leb→le, ltb→lt, le→leb, lt→ltb, eqb→eq, eqb-refl}
 use Rattle.form.specs.Form.{Form, ret, _>>=_, Filled, value, bytes}
 use Rattle.form.proofs.RulesLaws.{_▸_, Says, then-fill, then-told}
 use Rattle.rules.specs.Values.{Part, Payment, Totals}

@@ -1,8 +1,7 @@
 -- The sums of account numbers and of bank codes never pass 17 digits: ten digits and eight digits, added at most 9,999,999 times.
-use Prim.Native.Nat.{ℕ, zero, suc, _+_, _*_, _^_, _≤_, _<_}
+use Prim.Native.Nat.{ℕ, _+_, _*_, _^_, _≤_, _<_}
 use native.Mathlib.Omega.{arith}
 use mathlib.Core.List.{List, [], _∷_}
-use lib.ListN.{length}
 use Rattle.rules.specs.Values.{Payment, Totals, noTotals, adding, totals}
 use Rattle.rules.specs.Rules.{All, mostPayments, sumLimit, LegalPayment}
 

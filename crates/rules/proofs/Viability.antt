@@ -1,11 +1,11 @@
 -- At every field of the diskette form that can be come to there is a legal content: a file that was right so far can be ended rightly.
-use Prim.Native.Nat.{ℕ, zero, suc, _+_, _-_, _*_, _/_, _%_, _^_, _≤_, _<_}
+use Prim.Native.Nat.{ℕ, zero, suc, _+_, _-_, _/_, _%_, _^_, _≤_, _<_}
 use native.Mathlib.Omega.{arith}
 use mathlib.Core.Path.{_≡_}
 use mathlib.Core.Logic.{_⊎_, inl, inr}
 use mathlib.Core.Option.{none}
 use mathlib.Core.Bool.{Bool, true, false, _&&_, _||_, not}
-use mathlib.Core.List.{List, []}
+use mathlib.Core.List.{List}
 use lib.ListN.{replicate}
 use lib.Dec.{T, leb, ltb, eqb, leb→le, ltb→lt, le→leb, lt→ltb, eqb→eq, eqb-refl}
 use Rattle.form.specs.Kind.{digits}
@@ -15,12 +15,12 @@ use Rattle.form.proofs.RulesLaws.{_▸_, viable-bind, viable-fork, then-viable}
 use Rattle.rules.specs.Signs.{ascii, oneOf}
 use Rattle.rules.specs.Calendar.{isDay, ofDDMMYY, monthDays}
 use Rattle.rules.specs.Values.{Header, Payment, Document, Totals, noTotals, adding}
-use Rattle.rules.specs.Rules.{mostPayments, mostCents, endsInK, senderBankOk, beginsWithG, keys, keyOk}
+use Rattle.rules.specs.Rules.{mostPayments, mostCents, endsInK, beginsWithG, keys, keyOk}
 use Rattle.rules.specs.Writing.{lengthOf, section, toSectionEnd, toNextPart, writeBody}
 use Rattle.rules.specs.Fields.{Name, header, roomAfter, closingBlanks, parts, payment, end, isLength, firstField, payments, document}
 use Rattle.rules.proofs.MarkLaws.{see-mark, show-mark, mark-fits, room-left, some-mark}
 use Rattle.rules.proofs.PaymentSays.{GoodPayment, payment-says}
-use Rattle.rules.proofs.FileSays.{Within, end-begins, payment-begins}
+use Rattle.rules.proofs.EndSays.{Within, end-begins, payment-begins}
 use Rattle.rules.proofs.SumLaws.{Bounded, bounded-none, bounded-adding, account-room, bank-room}
 
 -- fixed bytes; a text of 27 letters
@@ -61,9 +61,9 @@ parts-viable (suc left) i room h l =
     let s = some-mark room left h l in
     let m = show-mark s.1 in
     viable-bind (closingBlanks (section i) (toNextPart i)) _ (closing-viable (section i) (toNextPart i)) (λ r.
-    (s.0, mark-fits s.1, (m.0, (m.1, tt))) ▸ λ c.
+    (s.0, mark-fits s.1, (m.0, (omega (arith, le→leb), tt))) ▸ λ c.
     (letters, tt, tt) ▸ λ t.
-    let x = room-left h (see-mark room left (c .0) (c .2 .0) (c .2 .1 .0)) in
+    let x = room-left h (see-mark room left (c .0) (c .2 .0) (leb→le left (roomAfter (c .0) room) (c .2 .1 .0))) in
     viable-bind (parts left (suc i) (roomAfter (c .0) room)) _ (parts-viable left (suc i) (roomAfter (c .0) room) x.0 x.1) (λ q. tt))
 
 some-key : (kind : List ℕ) → (k : ℕ) × T (ltb k 100) × T (keyOk kind k)

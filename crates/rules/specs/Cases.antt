@@ -10,7 +10,7 @@ use Rattle.rules.specs.Signs.{ascii, zeros}
 use Rattle.rules.specs.Calendar.{isDay, monthDays, leapDay, inSpan, dayNumber, yearsDays, monthsDays, ofDDMMYY, ofDDMMYYYY}
 use Rattle.rules.specs.Writing.{inTurn, toSectionEnd, toNextPart}
 use Rattle.rules.specs.Fields.{parts, payments, document}
-use Rattle.rules.specs.Answer.{answer, numberOf, Outcome, outcome}
+use Rattle.rules.specs.Answer.{answer, numberOf, outcome}
 
 -- a word, and blanks up to a width of 27
 abbrev pub padded : String → List ℕ

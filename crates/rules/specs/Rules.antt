@@ -1,15 +1,15 @@
 -- When a file's values are legal. No file order, no running sum, no number given back, no reader.
-use Prim.Native.Nat.{ℕ, zero, suc, _+_, _-_, _*_, _/_, _%_, _^_, _≤_, _<_}
+use Prim.Native.Nat.{ℕ, suc, _/_, _%_, _^_, _≤_, _<_}
 use mathlib.Core.Path.{_≡_}
 use mathlib.Core.Option.{Option, none, some}
-use mathlib.Core.Bool.{Bool, true, _&&_, _||_, not, cond}
+use mathlib.Core.Bool.{Bool, _&&_, _||_, not, cond}
 use mathlib.Core.List.{List, [], _∷_, map}
 use lib.ListN.{length, take, drop}
-use lib.Dec.{T, leb, ltb, eqb}
+use lib.Dec.{T, eqb}
 use Rattle.form.specs.Kind.{every, same, among}
 use Rattle.rules.specs.Signs.{ascii, oneOf, sign, notAllBlank}
 use Rattle.rules.specs.Calendar.{Day, isDay, OnOrSoonAfter, century}
-use Rattle.rules.specs.Values.{Header, Part, Payment, Document, Totals, totals}
+use Rattle.rules.specs.Values.{Header, Part, Payment, Document, totals}
 
 abbrev pub All : {A : Type 0} → (A → Type 0) → List A → Type 0
 All P [] = Unit {0}
