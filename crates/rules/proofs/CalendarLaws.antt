@@ -8,7 +8,7 @@ use mathlib.Core.Bool.{Bool, true, false, _&&_, _||_, not, cond}
 use lib.Dec.{T, leb, ltb, eqb, leb→le, le→leb}
 use borrow.Author.Tests.{ltb-true, ltb-false, eqb-true, eqb-false}
 use Rattle.form.proofs.BoolLaws.{and-both, and-of}
-use Rattle.rules.specs.Calendar.{Day, leap, leapDay, monthDays, isDay, tomorrow, daysAfter, yearsDays, monthsDays, dayNumber, spanDays, OnOrSoonAfter, inSpan}
+use Rattle.rules.specs.Calendar.{Day, leap, leapDay, thirtyDays, monthDays, isDay, tomorrow, daysAfter, yearsDays, monthsDays, dayNumber, spanDays, OnOrSoonAfter, inSpan}
 
 -- ---- what a day is
 
@@ -57,7 +57,7 @@ leap-day-most y = by (leap y)
 
 pub month-least : (y m : ℕ) → 28 ≤ monthDays y m
 unfolding monthDays
-month-least y m = by (eqb m 2) (eqb m 4 || (eqb m 6 || (eqb m 9 || eqb m 11)))
+month-least y m = by (eqb m 2) (thirtyDays m)
   where
     by : (b c : Bool) → 28 ≤ cond b (28 + leapDay y) (cond c 30 31)
     by true c = omega arith
@@ -66,7 +66,7 @@ month-least y m = by (eqb m 2) (eqb m 4 || (eqb m 6 || (eqb m 9 || eqb m 11)))
 
 pub month-most : (y m : ℕ) → monthDays y m ≤ 31
 unfolding monthDays
-month-most y m = by (eqb m 2) (eqb m 4 || (eqb m 6 || (eqb m 9 || eqb m 11)))
+month-most y m = by (eqb m 2) (thirtyDays m)
   where
     by : (b c : Bool) → cond b (28 + leapDay y) (cond c 30 31) ≤ 31
     by true c = omega (arith, leap-day-most y)

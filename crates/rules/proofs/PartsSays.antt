@@ -4,14 +4,14 @@ use native.Mathlib.Omega.{arith}
 use mathlib.Core.Path.{_≡_, refl, ap, _∙_}
 use mathlib.Core.List.{List, [], _∷_, _++_, map, append-nil}
 use lib.ListN.{length, length-map}
-use lib.Dec.{T, leb, leb→le, le→leb}
+use lib.Dec.{T, leb→le, le→leb}
 use Rattle.form.specs.Kind.{digits, Value, fixed, blanks}
-use Rattle.form.specs.Form.{rule, Form, ret, get, any, _>>=_, Filled, value, bytes}
+use Rattle.form.specs.Form.{Form, ret, get, any, _>>=_, Filled, value, bytes}
 use Rattle.form.proofs.RulesLaws.{_▸_, Says, then-fill, then-told}
 use Rattle.rules.specs.Values.{Part}
 use Rattle.rules.specs.Rules.{All, Text}
 use Rattle.rules.specs.Writing.{section, toSectionEnd, toNextPart, writeParts}
-use Rattle.rules.specs.Fields.{Name, mark, words, text27, roomAfter, markOk, closingBlanks, parts}
+use Rattle.rules.specs.Fields.{Name, mark, words, text27, roomAfter, markOk, markRules, closingBlanks, parts}
 use Rattle.rules.proofs.MarkLaws.{Allowed, see-mark, show-mark, mark-fits, Walked}
 use Rattle.rules.proofs.FieldLaws.{text-fits, fits-text}
 
@@ -64,7 +64,7 @@ module _ (left i room : ℕ) (says : (j x : ℕ) → Says (parts left j x) (Good
   -- the fields behind the closing blanks
   abbrev behind : Value (fixed []) → Form Name (List Part)
   behind u =
-      get (mark (suc i)) (digits 2) (λ m. rule 13 (markOk room m) ∷ rule 13 (leb left (roomAfter m room)) ∷ []) >>= λ m.
+      get (mark (suc i)) (digits 2) (markRules room left) >>= λ m.
       any (words (suc i)) text27 >>= λ t. parts left (suc i) (roomAfter m room) >>= close m t
 
   -- a part fills in its two fields, s fills in what is behind them

@@ -16,9 +16,12 @@ leap y = eqb (y % 4) 0 && (not (eqb (y % 100) 0) || eqb (y % 400) 0)
 unfoldable pub leapDay : ℕ → ℕ
 leapDay y = cond (leap y) 1 0
 
--- April, June, September and November have 30 days
+-- April, June, September and November
+abbrev pub thirtyDays : ℕ → Bool
+thirtyDays m = eqb m 4 || (eqb m 6 || (eqb m 9 || eqb m 11))
+
 unfoldable pub monthDays : ℕ → ℕ → ℕ
-monthDays y m = cond (eqb m 2) (28 + leapDay y) (cond (eqb m 4 || (eqb m 6 || (eqb m 9 || eqb m 11))) 30 31)
+monthDays y m = cond (eqb m 2) (28 + leapDay y) (cond (thirtyDays m) 30 31)
 
 unfoldable pub isDay : Day → Bool
 isDay d =

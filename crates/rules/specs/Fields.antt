@@ -79,6 +79,10 @@ roomAfter m room = cond (eqb m 1) 14 (cond (eqb m 2) (min room 14 - 1) 0)
 abbrev pub markOk : ℕ → ℕ → Bool
 markOk room m = (eqb m 1 && eqb room 15) || ((eqb m 2 && leb 2 room) || (eqb m 3 && leb 1 room))
 
+-- and the parts still to come can be filled
+abbrev pub markRules : ℕ → ℕ → ℕ → List Rule
+markRules room left m = rule 13 (markOk room m) ∷ rule 13 (leb left (roomAfter m room)) ∷ []
+
 -- the blanks that close a section; no field where there are none
 abbrev pub closingBlanks : ℕ → ℕ → Form Name (Value (fixed []))
 closingBlanks s zero = ret tt
@@ -91,7 +95,7 @@ parts zero i room = do
   ret []
 parts (suc left) i room = do
   closingBlanks (section i) (toNextPart i)
-  m ← get (mark (suc i)) (digits 2) (λ m. rule 13 (markOk room m) ∷ rule 13 (leb left (roomAfter m room)) ∷ [])
+  m ← get (mark (suc i)) (digits 2) (markRules room left)
   t ← any (words (suc i)) text27
   ps ← parts left (suc i) (roomAfter m room)
   ret (record { mark = m; words = t } ∷ ps)
