@@ -18,6 +18,18 @@ infixr 5 _▸_
 abbrev pub _▸_ : {A : Type 0} {B : A → Type 0} (a : A) → B a → (x : A) × B x
 a ▸ b = (a, b)
 
+-- the content of a field of fixed bytes
+abbrev pub ok : Unit {0} × Unit {0} × Unit {0}
+ok = (tt, tt, tt)
+
+-- a filled form that says a, in these bytes
+abbrev pub Filling : {N A : Type 0} → Form N A → A → List ℕ → Type 0
+Filling m a bs = (r : Filled m) × (value m r ≡ a) × (bytes m r ≡ bs)
+
+-- what is said is legal, and its bytes are those that it is written with
+abbrev pub Told : {A : Type 0} → (A → Type 0) → (A → List ℕ) → A → List ℕ → Type 0
+Told {A} Legal write v bs = (a : A) × Legal a × (v ≡ a) × (bs ≡ write a)
+
 -- ---- two forms, one after the other
 
 pub viable-bind : {N A B : Type 0} (m : Form N A) (k : A → Form N B) → Viable m → ((r : Filled m) → Viable (k (value m r))) → Viable (m >>= k)
@@ -26,7 +38,7 @@ viable-bind (field ν κ rs next) k q h = (q .0, λ c. viable-bind (next (c .0))
 
 -- filled forms of the two are a filled form of both
 pub join : {N A B : Type 0} (m : Form N A) (k : A → Form N B) (r : Filled m) (s : Filled (k (value m r)))
-    → (t : Filled (m >>= k)) × (value (m >>= k) t ≡ value (k (value m r)) s) × (bytes (m >>= k) t ≡ bytes m r ++ bytes (k (value m r)) s)
+    → Filling (m >>= k) (value (k (value m r)) s) (bytes m r ++ bytes (k (value m r)) s)
 join (ret a) k r s = (s, refl, refl)
 join (field ν κ rs next) k r s =
     let v = r .0 .0 in
@@ -49,7 +61,7 @@ viable-fork true m k p q = p tt
 viable-fork false m k p q = q tt
 
 pub fork-no : {N A : Type 0} (b : Bool) (m : Form N A) (k : Unit {0} → Form N A) → T (not b) → (s : Filled (k tt))
-    → (r : Filled (fork b m k)) × (value (fork b m k) r ≡ value (k tt) s) × (bytes (fork b m k) r ≡ bytes (k tt) s)
+    → Filling (fork b m k) (value (k tt) s) (bytes (k tt) s)
 fork-no true m k t s = absurd t
 fork-no false m k t s = (s, refl, refl)
 
@@ -63,15 +75,15 @@ fork-see false m k P p q r = q tt r
 
 -- the filled forms are the legal values, written so
 pub record Says {N A : Type 0} (m : Form N A) (Legal : A → Type 0) (write : A → List ℕ) : Type 0 where
-  pub fill : (a : A) → Legal a → (r : Filled m) × (value m r ≡ a) × (bytes m r ≡ write a)
-  pub told : (r : Filled m) → (a : A) × Legal a × (value m r ≡ a) × (bytes m r ≡ write a)
+  pub fill : (a : A) → Legal a → Filling m a (write a)
+  pub told : (r : Filled m) → Told Legal write (value m r) (bytes m r)
 
 -- such a form, and then another
 module _ {N A B : Type 0} (m : Form N A) (Legal : A → Type 0) (write : A → List ℕ) (says : Says m Legal write) (k : A → Form N B) where
-  pub then-fill : (a : A) → Legal a → (s : Filled (k a)) → (t : Filled (m >>= k)) × (value (m >>= k) t ≡ value (k a) s) × (bytes (m >>= k) t ≡ write a ++ bytes (k a) s)
+  pub then-fill : (a : A) → Legal a → (s : Filled (k a)) → Filling (m >>= k) (value (k a) s) (write a ++ bytes (k a) s)
   then-fill a g =
       let f = says .fill a g in
-      rw (← f.2) (subst (λ (x : A). (s : Filled (k x)) → (t : Filled (m >>= k)) × (value (m >>= k) t ≡ value (k x) s) × (bytes (m >>= k) t ≡ bytes m f.0 ++ bytes (k x) s)) f.1
+      rw (← f.2) (subst (λ (x : A). (s : Filled (k x)) → Filling (m >>= k) (value (k x) s) (bytes m f.0 ++ bytes (k x) s)) f.1
       (λ s. join m k f.0 s))
 
   pub then-told : (t : Filled (m >>= k)) → (a : A) × Legal a × (s : Filled (k a)) × (value (m >>= k) t ≡ value (k a) s) × (bytes (m >>= k) t ≡ write a ++ bytes (k a) s)

@@ -8,7 +8,7 @@ use lib.Dec.{T, leb, ltb, eqb, leb→le, ltb→lt, le→leb, lt→ltb, eqb→eq,
 use borrow.Author.Tests.{ne-eqb}
 use Rattle.form.specs.Form.{Holds, Filled, value, bytes}
 use Rattle.form.proofs.BoolLaws.{and-of, or-left}
-use Rattle.form.proofs.RulesLaws.{_▸_}
+use Rattle.form.proofs.RulesLaws.{_▸_, ok, Filling}
 use Rattle.rules.specs.Values.{Totals}
 use Rattle.rules.specs.Rules.{mostPayments, mostCents, sumLimit, notZero}
 use Rattle.rules.specs.Writing.{lengthOf, writeFigures}
@@ -22,16 +22,16 @@ pub record Within (t : Totals) : Type 0 where
   pub bankCodes : t .bankCodes < sumLimit
   pub cents : t .cents ≤ mostCents
 
-pub end-fill : (t : Totals) → t .count ≤ mostPayments → Within t → (r : Filled (end t)) × (value (end t) r ≡ []) × (bytes (end t) r ≡ writeFigures t)
+pub end-fill : (t : Totals) → t .count ≤ mostPayments → Within t → Filling (end t) [] (writeFigures t)
 end-fill t h w = (
-  (tt, tt, tt)
-      ▸ (tt, tt, tt)
+  ok
+      ▸ ok
       ▸ (t .count, lt→ltb (t .count) (10 ^ 7) (omega arith), (eqb-refl (t .count), tt))
-      ▸ (tt, tt, tt)
+      ▸ ok
       ▸ (t .accounts, lt→ltb (t .accounts) (10 ^ 17) (w .accounts), (eqb-refl (t .accounts), tt))
       ▸ (t .bankCodes, lt→ltb (t .bankCodes) (10 ^ 17) (w .bankCodes), (eqb-refl (t .bankCodes), tt))
       ▸ (t .cents, lt→ltb (t .cents) (10 ^ 13) (omega (arith, w .cents)), (eqb-refl (t .cents), tt))
-      ▸ (tt, tt, tt)
+      ▸ ok
       ▸ tt,
   refl,
   refl,

@@ -10,11 +10,11 @@ use lib.Dec.{T, eqb, lt→ltb, eqb→eq}
 use borrow.Author.Tests.{ne-eqb}
 use Rattle.form.specs.Kind.{numeral}
 use Rattle.form.specs.Form.{Holds, Form, ret, fork, _>>=_, Filled, value, bytes}
-use Rattle.form.proofs.RulesLaws.{Says, then-fill, then-told, fork-no, fork-see}
+use Rattle.form.proofs.RulesLaws.{Filling, Told, Says, then-fill, then-told, fork-no, fork-see}
 use Rattle.rules.specs.Values.{Header, Payment, Document, Totals, noTotals, adding, totals}
 use Rattle.rules.specs.Rules.{All, mostPayments, mostCents, sumLimit, LegalHeader, LegalPayment, Legal}
 use Rattle.rules.specs.Writing.{lengthOf, writeHeader, writeBody, writePayments, writeFigures, writeEnd, write}
-use Rattle.rules.specs.Fields.{Name, header, payment, end, firstField, payments, document}
+use Rattle.rules.specs.Fields.{Name, header, payment, end, firstField, payments, behindHeader, document}
 use Rattle.rules.proofs.HeaderSays.{header-says}
 use Rattle.rules.proofs.PaymentSays.{GoodPayment, few-parts, payment-says}
 use Rattle.rules.proofs.EndSays.{Within, end-fill, end-told, end-begins, payment-begins, end-some, must-end, some-cents}
@@ -76,7 +76,7 @@ ends-fill : (t : Totals) → t .count ≤ mostPayments → Within t → (r : Fil
 ends-fill t h w = let e = end-fill t h w in (e.0, e.1, rest-none t (bytes (end t) e.0) e.2)
 
 ends-told : (left : ℕ) (kind : List ℕ) (t : Totals) (l : ℕ) → l ≡ 128 → Holds (firstField t l) → Within t → (r : Filled (end t))
-    → (ps : List Payment) × GoodFrom left kind t ps × (value (end t) r ≡ ps) × (numeral 4 l ++ bytes (end t) r ≡ rest t ps)
+    → Told (GoodFrom left kind t) (rest t) (value (end t) r) (numeral 4 l ++ bytes (end t) r)
 ends-told left kind t l i f w r =
     let e = end-told t r in
     ([], none-good left kind t (end-some t l i f) w, e.0, rw i (rest-none t (bytes (end t) r) e.1))
@@ -86,12 +86,11 @@ no-more-says : (kind : List ℕ) (t : Totals) → t .count ≡ mostPayments → 
 unfolding payments
 no-more-says kind t h w = record { fill = fill; told = told }
   where
-    fill : (ps : List Payment) → GoodFrom zero kind t ps → (r : Filled (payments zero kind t)) × (value (payments zero kind t) r ≡ ps) × (bytes (payments zero kind t) r ≡ rest t ps)
+    fill : (ps : List Payment) → GoodFrom zero kind t ps → Filling (payments zero kind t) ps (rest t ps)
     fill [] g = let e = ends-fill t (omega arith) w in (((128, tt, end-begins t (omega (arith, g .some))), e.0), e.1, e.2)
     fill (p ∷ ps) g = absurd (omega (arith, g .count))
 
-    told : (r : Filled (payments zero kind t))
-        → (ps : List Payment) × GoodFrom zero kind t ps × (value (payments zero kind t) r ≡ ps) × (bytes (payments zero kind t) r ≡ rest t ps)
+    told : (r : Filled (payments zero kind t)) → Told (GoodFrom zero kind t) (rest t) (value (payments zero kind t) r) (bytes (payments zero kind t) r)
     told r = ends-told zero kind t (r .0 .0) (must-end t (r .0 .0) (omega arith) (r .0 .2)) (r .0 .2) w (r .1)
 
 -- one payment, and those that come after it
@@ -141,7 +140,7 @@ module _ (left : ℕ) (kind : List ℕ) (t : Totals) (h : t .count + suc left �
 
   -- the others fill in what follows a payment
   others-fill : (p : Payment) (ps : List Payment) → Within (adding t p) → GoodFrom left kind (adding t p) ps
-      → (s : Filled (onward p)) × (value (onward p) s ≡ p ∷ ps) × (bytes (onward p) s ≡ rest (adding t p) ps ++ [])
+      → Filling (onward p) (p ∷ ps) (rest (adding t p) ps ++ [])
   others-fill p ps i g = then-fill (payments left kind (adding t p)) (GoodFrom left kind (adding t p)) (rest (adding t p)) (says p i) (cons p) ps g tt
 
   -- both fill in what follows the length
@@ -156,14 +155,14 @@ module _ (left : ℕ) (kind : List ℕ) (t : Totals) (h : t .count + suc left �
 
   -- and the other way round
   more-told : (l : ℕ) (s : Filled (more l tt))
-      → (ps : List Payment) × GoodFrom (suc left) kind t ps × (value (more l tt) s ≡ ps) × (numeral 4 l ++ bytes (more l tt) s ≡ rest t ps)
+      → Told (GoodFrom (suc left) kind t) (rest t) (value (more l tt) s) (numeral 4 l ++ bytes (more l tt) s)
   more-told l s =
       let d = then-told (payment kind t l) (GoodPayment kind t l) writeBody (payment-says kind t l) onward s in
       others-told l d.0 d.1 d.2 (value (more l tt) s) (bytes (more l tt) s) d.3 d.4
     where
       others-told : (l : ℕ) (p : Payment) → GoodPayment kind t l p → (s : Filled (onward p)) (v : List Payment) (b : List ℕ)
           → v ≡ value (onward p) s → b ≡ writeBody p ++ bytes (onward p) s
-          → (ps : List Payment) × GoodFrom (suc left) kind t ps × (v ≡ ps) × (numeral 4 l ++ b ≡ rest t ps)
+          → Told (GoodFrom (suc left) kind t) (rest t) v (numeral 4 l ++ b)
       others-told l p g s v b x y =
           let e = then-told (payments left kind (adding t p)) (GoodFrom left kind (adding t p)) (rest (adding t p)) (says p (within-next p g)) (cons p) s in
           (p ∷ e.0, good-both p e.0 (g .legal) e.1, x ∙ e.3, rest-more t p e.0 l b (bytes (onward p) s) (g .long) y e.4)
@@ -172,8 +171,7 @@ module _ (left : ℕ) (kind : List ℕ) (t : Totals) (h : t .count + suc left �
   unfolding payments
   some-says = record { fill = fill; told = told }
     where
-      fill : (ps : List Payment) → GoodFrom (suc left) kind t ps
-          → (r : Filled (payments (suc left) kind t)) × (value (payments (suc left) kind t) r ≡ ps) × (bytes (payments (suc left) kind t) r ≡ rest t ps)
+      fill : (ps : List Payment) → GoodFrom (suc left) kind t ps → Filling (payments (suc left) kind t) ps (rest t ps)
       fill [] g = let e = ends-fill t (omega arith) w in (((128, tt, end-begins t (omega (arith, g .some))), e.0), e.1, e.2)
       fill (p ∷ ps) g =
           let i = few-parts kind p (g .legal .0) in
@@ -184,11 +182,10 @@ module _ (left : ℕ) (kind : List ℕ) (t : Totals) (h : t .count + suc left �
           let c = payment-begins t (length (p .parts)) i (omega arith) (below-top p (g .legal .0) q) in
           (((l, lt→ltb l (10 ^ 4) (omega arith), c), f.0), f.1, f.2)
 
-      told : (r : Filled (payments (suc left) kind t))
-          → (ps : List Payment) × GoodFrom (suc left) kind t ps × (value (payments (suc left) kind t) r ≡ ps) × (bytes (payments (suc left) kind t) r ≡ rest t ps)
+      told : (r : Filled (payments (suc left) kind t)) → Told (GoodFrom (suc left) kind t) (rest t) (value (payments (suc left) kind t) r) (bytes (payments (suc left) kind t) r)
       told r =
           let l : ℕ = r .0 .0 in
-          fork-see (eqb l 128) (end t) (more l) (λ v bs. (ps : List Payment) × GoodFrom (suc left) kind t ps × (v ≡ ps) × (numeral 4 l ++ bs ≡ rest t ps))
+          fork-see (eqb l 128) (end t) (more l) (λ v bs. Told (GoodFrom (suc left) kind t) (rest t) v (numeral 4 l ++ bs))
           (λ x s. ends-told (suc left) kind t l (eqb→eq l 128 x) (r .0 .2) w s) (λ x s. more-told l s) (r .1)
 
 pub payments-says : (left : ℕ) (kind : List ℕ) (t : Totals) → t .count + left ≡ mostPayments → Within t → Says (payments left kind t) (GoodFrom left kind t) (rest t)
@@ -212,13 +209,10 @@ document-says = record { fill = fill; told = told }
     close : Header → List Payment → Form Name Document
     close h ps = ret (record { header = h; payments = ps })
 
-    onward : Header → Form Name Document
-    onward h = payments mostPayments (h .fileKind) noTotals >>= close h
-
     all : (kind : List ℕ) → Says (payments mostPayments kind noTotals) (GoodFrom mostPayments kind noTotals) (rest noTotals)
     all kind = payments-says mostPayments kind noTotals (omega arith) (record { accounts = omega arith; bankCodes = omega arith; cents = omega arith })
 
-    fill : (d : Document) → Legal d → (r : Filled document) × (value document r ≡ d) × (bytes document r ≡ write d)
+    fill : (d : Document) → Legal d → Filling document d (write d)
     fill d g =
         let h = d .header in
         let ps = d .payments in
@@ -233,12 +227,12 @@ document-says = record { fill = fill; told = told }
           cents = omega (arith, g .cents);
         } in
         let t = then-fill (payments mostPayments kind noTotals) (GoodFrom mostPayments kind noTotals) (rest noTotals) (all kind) (close h) ps q tt in
-        let s = then-fill header LegalHeader writeHeader header-says onward h (g .header) t.0 in
-        (s.0, s.1 ∙ t.1, whole h ps (bytes document s.0) (bytes (onward h) t.0) s.2 t.2)
+        let s = then-fill header LegalHeader writeHeader header-says behindHeader h (g .header) t.0 in
+        (s.0, s.1 ∙ t.1, whole h ps (bytes document s.0) (bytes (behindHeader h) t.0) s.2 t.2)
 
-    told : (r : Filled document) → (d : Document) × Legal d × (value document r ≡ d) × (bytes document r ≡ write d)
+    told : (r : Filled document) → Told Legal write (value document r) (bytes document r)
     told r =
-        let x = then-told header LegalHeader writeHeader header-says onward r in
+        let x = then-told header LegalHeader writeHeader header-says behindHeader r in
         let h = x.0 in
         let kind = h .fileKind in
         let y = then-told (payments mostPayments kind noTotals) (GoodFrom mostPayments kind noTotals) (rest noTotals) (all kind) (close h) x.2 in
@@ -254,5 +248,5 @@ document-says = record { fill = fill; told = told }
             cents = omega (arith, g .cents);
           },
           x.3 ∙ y.3,
-          whole h y.0 (bytes document r) (bytes (onward h) x.2) x.4 y.4,
+          whole h y.0 (bytes document r) (bytes (behindHeader h) x.2) x.4 y.4,
         )

@@ -7,7 +7,7 @@ use lib.Dec.{T, eqb, ltb→lt, lt→ltb}
 use Rattle.form.specs.Kind.{maybe, fits, spell, among}
 use Rattle.form.specs.Form.{Holds, Filled, value, bytes}
 use Rattle.form.proofs.BoolLaws.{and-both}
-use Rattle.form.proofs.RulesLaws.{_▸_, Says}
+use Rattle.form.proofs.RulesLaws.{_▸_, ok, Filling, Told, Says}
 use Rattle.rules.specs.Calendar.{Day, isDay, ofDDMMYY, toDDMMYY, toDDMMYYYY, ofDDMMYYYY}
 use Rattle.rules.specs.Values.{Header}
 use Rattle.rules.specs.Rules.{fileKinds, LegalExecution, LegalHeader}
@@ -16,10 +16,6 @@ use Rattle.rules.specs.Fields.{executionOf, executionRules, header}
 use Rattle.rules.proofs.CalendarLaws.{IsDay, see-day, span-counted}
 use Rattle.rules.proofs.DateLaws.{short-fits, short-back, short-there, short-year, long-fits, long-back, long-there}
 use Rattle.rules.proofs.FieldLaws.{text-fits, fits-text, kind-fits}
-
--- the content of a field of fixed bytes
-ok : Unit {0} × Unit {0} × Unit {0}
-ok = (tt, tt, tt)
 
 -- ---- A11b
 
@@ -70,7 +66,7 @@ same-header h made e p q = rw (p, q)
 
 -- a legal header fills in A; n is what A7 holds
 from-number : (h : Header) (l : LegalHeader h) (n : ℕ) → n ≡ toDDMMYY (h .made) → ofDDMMYY n ≡ h .made → n < 10 ^ 6 → T (isDay (ofDDMMYY n))
-    → Executes (ofDDMMYY n) (h .execution) → (r : Filled header) × (value header r ≡ h) × (bytes header r ≡ writeHeader h)
+    → Executes (ofDDMMYY n) (h .execution) → Filling header h (writeHeader h)
 from-number h l n e back small day x = (
   ok
       ▸ ok
@@ -94,7 +90,7 @@ from-number h l n e back small day x = (
 pub header-says : Says header LegalHeader writeHeader
 header-says = record { fill = fill; told = told }
   where
-    fill : (h : Header) → LegalHeader h → (r : Filled header) × (value header r ≡ h) × (bytes header r ≡ writeHeader h)
+    fill : (h : Header) → LegalHeader h → Filling header h (writeHeader h)
     fill h l =
         let i = see-day (h .made) (l .A7) in
         let n : ℕ = toDDMMYY (h .made) in
@@ -103,7 +99,7 @@ header-says = record { fill = fill; told = told }
         let x = executes (h .made) (h .execution) i early (l .A11b) in
         from-number h l n refl back (short-fits (h .made) i) (rw back (l .A7)) (subst (λ (d : Day). Executes d (h .execution)) (sym back) x)
 
-    told : (r : Filled header) → (h : Header) × LegalHeader h × (value header r ≡ h) × (bytes header r ≡ writeHeader h)
+    told : (r : Filled header) → Told LegalHeader writeHeader (value header r) (bytes header r)
     told r =
         let kind = r .1 .1 in
         let bankCode = kind .1 in

@@ -4,14 +4,14 @@ use mathlib.Core.Option.{Option, none, some}
 use mathlib.Core.Bool.{Bool, _&&_}
 use mathlib.Core.List.{List}
 use lib.Dec.{leb, eqb}
-use Rattle.form.specs.Form.{Form, ret, _>>=_}
+use Rattle.form.specs.Form.{_>>=_}
 use Rattle.form.proofs.RulesLaws.{_▸_}
 use Rattle.form.proofs.NumberLaws.{NumberedRules, Numbered, numbered-bind, numbered-fork}
 use Rattle.rules.specs.Calendar.{Day}
-use Rattle.rules.specs.Values.{Header, Payment, Document, Totals, noTotals, adding}
+use Rattle.rules.specs.Values.{Totals, noTotals, adding}
 use Rattle.rules.specs.Rules.{mostPayments}
 use Rattle.rules.specs.Writing.{section, toSectionEnd, toNextPart}
-use Rattle.rules.specs.Fields.{Name, executionOf, executionRules, header, roomAfter, closingBlanks, parts, payment, end, payments, document}
+use Rattle.rules.specs.Fields.{executionOf, executionRules, header, roomAfter, closingBlanks, parts, payment, end, payments, behindHeader, document}
 
 abbrev pub ofRule : ℕ → Bool
 ofRule n = leb 5 n && leb n 14
@@ -97,10 +97,6 @@ payments-numbers (suc left) kind t =
 
 pub document-numbers : Numbered ofRule document
 unfolding document
-document-numbers = numbered-bind ofRule header onward header-numbers (λ h. numbered-bind ofRule (payments mostPayments (h .fileKind) noTotals) (close h) (payments-numbers mostPayments (h .fileKind) noTotals) (λ ps. tt))
-  where
-    close : Header → List Payment → Form Name Document
-    close h ps = ret (record { header = h; payments = ps })
-
-    onward : Header → Form Name Document
-    onward h = payments mostPayments (h .fileKind) noTotals >>= close h
+document-numbers =
+    numbered-bind ofRule header behindHeader header-numbers (λ h.
+    numbered-bind ofRule (payments mostPayments (h .fileKind) noTotals) _ (payments-numbers mostPayments (h .fileKind) noTotals) (λ ps. tt))

@@ -7,7 +7,7 @@ use lib.ListN.{length, length-map}
 use lib.Dec.{T, leb→le, le→leb}
 use Rattle.form.specs.Kind.{digits, Value, fixed, blanks}
 use Rattle.form.specs.Form.{Form, ret, get, any, _>>=_, Filled, value, bytes}
-use Rattle.form.proofs.RulesLaws.{_▸_, Says, then-fill, then-told}
+use Rattle.form.proofs.RulesLaws.{_▸_, ok, Filling, Told, Says, then-fill, then-told}
 use Rattle.rules.specs.Values.{Part}
 use Rattle.rules.specs.Rules.{All, Text}
 use Rattle.rules.specs.Writing.{section, toSectionEnd, toNextPart, writeParts}
@@ -23,7 +23,7 @@ Always u = Unit {0}
 pub closing-says : (s n : ℕ) → Says (closingBlanks s n) Always (λ u. blanks n)
 closing-says s zero = record { fill = λ u g. (tt, refl, refl); told = λ r. (tt, tt, refl, refl) }
 closing-says s (suc n) =
-    record { fill = λ u g. ((tt, tt, tt) ▸ tt, refl, append-nil (blanks (suc n))); told = λ r. (tt, tt, refl, append-nil (blanks (suc n))) }
+    record { fill = λ u g. (ok ▸ tt, refl, append-nil (blanks (suc n))); told = λ r. (tt, tt, refl, append-nil (blanks (suc n))) }
 
 -- ---- parts
 
@@ -45,13 +45,13 @@ none-left i room = record { fill = fill; told = told }
     s : Says (closingBlanks (section i) (toSectionEnd i)) Always (λ u. blanks (toSectionEnd i))
     s = closing-says (section i) (toSectionEnd i)
 
-    fill : (ps : List Part) → GoodParts zero room ps → (r : Filled (parts zero i room)) × (value (parts zero i room) r ≡ ps) × (bytes (parts zero i room) r ≡ writeParts i ps)
+    fill : (ps : List Part) → GoodParts zero room ps → Filling (parts zero i room) ps (writeParts i ps)
     fill [] g =
         let t = then-fill (closingBlanks (section i) (toSectionEnd i)) Always (λ u. blanks (toSectionEnd i)) s (λ u. ret []) tt tt tt in
         (t.0, t.1, t.2 ∙ append-nil (blanks (toSectionEnd i)))
     fill (q ∷ qs) g = absurd (omega arith)
 
-    told : (r : Filled (parts zero i room)) → (ps : List Part) × GoodParts zero room ps × (value (parts zero i room) r ≡ ps) × (bytes (parts zero i room) r ≡ writeParts i ps)
+    told : (r : Filled (parts zero i room)) → Told (GoodParts zero room) (writeParts i) (value (parts zero i room) r) (bytes (parts zero i room) r)
     told r =
         let t = then-told (closingBlanks (section i) (toSectionEnd i)) Always (λ u. blanks (toSectionEnd i)) s (λ u. ret []) r in
         ([], (refl, tt, tt), t.3, t.4 ∙ append-nil (blanks (toSectionEnd i)))
@@ -77,8 +77,7 @@ module _ (left i room : ℕ) (says : (j x : ℕ) → Says (parts left j x) (Good
       let m = show-mark a in
       ((q .mark, mark-fits a, (m.0, (omega (arith, le→leb), tt))) ▸ (q .words, text-fits (q .words) t, tt) ▸ s, v, rw b)
 
-  part-fill : (ps : List Part) → GoodParts (suc left) room ps
-      → (r : Filled (parts (suc left) i room)) × (value (parts (suc left) i room) r ≡ ps) × (bytes (parts (suc left) i room) r ≡ writeParts i ps)
+  part-fill : (ps : List Part) → GoodParts (suc left) room ps → Filling (parts (suc left) i room) ps (writeParts i ps)
   unfolding parts
   part-fill [] g = absurd (omega arith)
   part-fill (q ∷ qs) g =
@@ -89,7 +88,7 @@ module _ (left i room : ℕ) (says : (j x : ℕ) → Says (parts left j x) (Good
       after-blanks p.0 (q ∷ qs) p.1 p.2
     where
       after-blanks : (r : Filled (behind tt)) (ps : List Part) → value (behind tt) r ≡ ps → blanks (toNextPart i) ++ bytes (behind tt) r ≡ writeParts i ps
-          → (t : Filled (parts (suc left) i room)) × (value (parts (suc left) i room) t ≡ ps) × (bytes (parts (suc left) i room) t ≡ writeParts i ps)
+          → Filling (parts (suc left) i room) ps (writeParts i ps)
       after-blanks r ps v b =
           let t = then-fill (closingBlanks (section i) (toNextPart i)) Always (λ u. blanks (toNextPart i)) (closing-says (section i) (toNextPart i)) behind tt tt r in
           (t.0, t.1 ∙ v, t.2 ∙ b)
@@ -98,7 +97,7 @@ module _ (left i room : ℕ) (says : (j x : ℕ) → Says (parts left j x) (Good
   seen ps m e h k = rw (length-map ps markOf, e) (see-mark room left m h k)
 
   -- and the other way round
-  from-part : (r : Filled (behind tt)) → (ps : List Part) × GoodParts (suc left) room ps × (value (behind tt) r ≡ ps) × (blanks (toNextPart i) ++ bytes (behind tt) r ≡ writeParts i ps)
+  from-part : (r : Filled (behind tt)) → Told (GoodParts (suc left) room) (writeParts i) (value (behind tt) r) (blanks (toNextPart i) ++ bytes (behind tt) r)
   from-part r =
       let m = r .0 in
       let t = r .1 .0 in
@@ -107,8 +106,7 @@ module _ (left i room : ℕ) (says : (j x : ℕ) → Says (parts left j x) (Good
       let a = seen d.0 (m .0) (d .1 .0) (m .2 .0) (leb→le left x (m .2 .1 .0)) in
       (record { mark = m .0; words = t .0 } ∷ d.0, (ap suc (d .1 .0), (a, d .1 .1), (fits-text (t .0) (t .1), d .1 .2)), d.3, rw d.4)
 
-  part-told : (r : Filled (parts (suc left) i room))
-      → (ps : List Part) × GoodParts (suc left) room ps × (value (parts (suc left) i room) r ≡ ps) × (bytes (parts (suc left) i room) r ≡ writeParts i ps)
+  part-told : (r : Filled (parts (suc left) i room)) → Told (GoodParts (suc left) room) (writeParts i) (value (parts (suc left) i room) r) (bytes (parts (suc left) i room) r)
   unfolding parts
   part-told r =
       let b = then-told (closingBlanks (section i) (toNextPart i)) Always (λ u. blanks (toNextPart i)) (closing-says (section i) (toNextPart i)) behind r in

@@ -6,7 +6,7 @@ use mathlib.Core.List.{List, [], _++_, map}
 use lib.ListN.{length, length-map}
 use lib.Dec.{leb→le, ltb→lt, le→leb, lt→ltb, eqb→eq, eqb-refl}
 use Rattle.form.specs.Form.{Form, ret, _>>=_, Filled, value, bytes}
-use Rattle.form.proofs.RulesLaws.{_▸_, Says, then-fill, then-told}
+use Rattle.form.proofs.RulesLaws.{_▸_, ok, Filling, Told, Says, then-fill, then-told}
 use Rattle.rules.specs.Values.{Part, Payment, Totals}
 use Rattle.rules.specs.Rules.{mostCents, sumLimit, LegalPayment}
 use Rattle.rules.specs.Writing.{lengthOf, writeParts, writeBody}
@@ -52,35 +52,35 @@ module _ (kind : List ℕ) (t : Totals) (l : ℕ) where
   -- a good payment fills in C; n is what C18 holds, s fills in the parts
   from-parts : (p : Payment) → GoodPayment kind t l p → (n : ℕ) → n ≡ length (p .parts) → n < 100 → (s : Filled (parts n 0 15 >>= close p))
       → value (parts n 0 15 >>= close p) s ≡ p → bytes (parts n 0 15 >>= close p) s ≡ writeParts 0 (p .parts) ++ []
-      → (r : Filled (payment kind t l)) × (value (payment kind t l) r ≡ p) × (bytes (payment kind t l) r ≡ writeBody p)
+      → Filling (payment kind t l) p (writeBody p)
   from-parts p g n e small s v b =
       let q = g .legal in (
-        (tt, tt, tt)
+        ok
             ▸ (p .firstBank, lt→ltb (p .firstBank) (10 ^ 8) (q .C3), tt)
             ▸ (p .bankCode, lt→ltb (p .bankCode) (10 ^ 8) (q .C4), (q .C4-first, (lt→ltb (t .bankCodes + p .bankCode) sumLimit (g .bankCodes), tt)))
             ▸ (p .account, lt→ltb (p .account) (10 ^ 10) (q .C5), (q .C5-some, (lt→ltb (t .accounts + p .account) sumLimit (g .accounts), tt)))
             ▸ (p .customer, lt→ltb (p .customer) (10 ^ 13) (q .C6), (q .C6-ends, tt))
             ▸ (p .key, key-fits kind (p .key) (q .C7a), (q .C7a, tt))
             ▸ (p .supplement, lt→ltb (p .supplement) (10 ^ 3) (q .C7b), tt)
-            ▸ (tt, tt, tt)
-            ▸ (tt, tt, tt)
+            ▸ ok
+            ▸ ok
             ▸ (p .senderBank, lt→ltb (p .senderBank) (10 ^ 8) (q .C10), (q .C10-first, tt))
             ▸ (p .senderAccount, lt→ltb (p .senderAccount) (10 ^ 10) (q .C11), (q .C11-some, tt))
             ▸ (p .cents, lt→ltb (p .cents) (10 ^ 11) (q .C12), (q .C12-some, (le→leb (t .cents + p .cents) mostCents (g .cents), tt)))
-            ▸ (tt, tt, tt)
+            ▸ ok
             ▸ (p .beneficiary, text-fits (p .beneficiary) (q .C14a), (q .C14a-some, tt))
-            ▸ (tt, tt, tt)
+            ▸ ok
             ▸ (p .sender, text-fits (p .sender) (q .C15), (q .C15-some, tt))
             ▸ (p .purpose, text-fits (p .purpose) (q .C16), tt)
-            ▸ (tt, tt, tt)
-            ▸ (tt, tt, tt)
+            ▸ ok
+            ▸ ok
             ▸ (n, lt→ltb n 100 small, (rw (e, g .long) (eqb-refl l), tt))
             ▸ s,
         v,
         rw (b, e),
       )
 
-  fill : (p : Payment) → GoodPayment kind t l p → (r : Filled (payment kind t l)) × (value (payment kind t l) r ≡ p) × (bytes (payment kind t l) r ≡ writeBody p)
+  fill : (p : Payment) → GoodPayment kind t l p → Filling (payment kind t l) p (writeBody p)
   fill p g =
       let n = length (p .parts) in
       let f = few-parts kind p (g .legal) in
@@ -88,7 +88,7 @@ module _ (kind : List ℕ) (t : Totals) (l : ℕ) where
       (refl, legal-walked (map markOf (p .parts)) (g .legal .marks), g .legal .words) tt in
       from-parts p g n refl (omega arith) d.0 d.1 d.2
 
-  told : (r : Filled (payment kind t l)) → (p : Payment) × GoodPayment kind t l p × (value (payment kind t l) r ≡ p) × (bytes (payment kind t l) r ≡ writeBody p)
+  told : (r : Filled (payment kind t l)) → Told (GoodPayment kind t l) writeBody (value (payment kind t l) r) (bytes (payment kind t l) r)
   told r =
       let firstBank = r .1 in
       let bankCode = firstBank .1 in
@@ -104,7 +104,7 @@ module _ (kind : List ℕ) (t : Totals) (l : ℕ) where
       let purpose = sender .1 in
       let k = purpose .1 .1 .1 in
       let n : ℕ = k .0 .0 in
-      let none : Payment
+      let bare : Payment
       = record {
         firstBank = firstBank .0 .0;
         bankCode = bankCode .0 .0;
@@ -120,8 +120,8 @@ module _ (kind : List ℕ) (t : Totals) (l : ℕ) where
         purpose = purpose .0 .0;
         parts = [];
       } in
-      let d = then-told (parts n 0 15) (GoodParts n 15) (writeParts 0) (parts-says n 0 15) (close none) (k .1) in
-      let legal : LegalPayment kind (withParts none d.0)
+      let d = then-told (parts n 0 15) (GoodParts n 15) (writeParts 0) (parts-says n 0 15) (close bare) (k .1) in
+      let legal : LegalPayment kind (withParts bare d.0)
       = record {
         C3 = ltb→lt (firstBank .0 .0) (10 ^ 8) (firstBank .0 .1);
         C4 = ltb→lt (bankCode .0 .0) (10 ^ 8) (bankCode .0 .1);
@@ -146,7 +146,7 @@ module _ (kind : List ℕ) (t : Totals) (l : ℕ) where
         marks = walked-legal (map markOf d.0) (d .1 .1);
         words = d .1 .2;
       } in (
-        withParts none d.0,
+        withParts bare d.0,
         record {
           legal = legal;
           accounts = ltb→lt (t .accounts + account .0 .0) sumLimit (account .0 .2 .1 .0);

@@ -9,24 +9,21 @@ use mathlib.Core.List.{List}
 use lib.ListN.{replicate}
 use lib.Dec.{T, leb, ltb, eqb, leb→le, ltb→lt, le→leb, lt→ltb, eqb→eq, eqb-refl}
 use Rattle.form.specs.Kind.{digits}
-use Rattle.form.specs.Form.{Form, ret, Content, _>>=_, value, Viable}
+use Rattle.form.specs.Form.{Content, _>>=_, value, Viable}
 use Rattle.form.proofs.BoolLaws.{and-both, or-other, or-right}
-use Rattle.form.proofs.RulesLaws.{_▸_, viable-bind, viable-fork, then-viable}
+use Rattle.form.proofs.RulesLaws.{_▸_, ok, viable-bind, viable-fork, then-viable}
 use Rattle.rules.specs.Signs.{ascii, oneOf}
 use Rattle.rules.specs.Calendar.{isDay, ofDDMMYY, monthDays}
-use Rattle.rules.specs.Values.{Header, Payment, Document, Totals, noTotals, adding}
+use Rattle.rules.specs.Values.{Header, Totals, noTotals, adding}
 use Rattle.rules.specs.Rules.{mostPayments, mostCents, endsInK, beginsWithG, keys, keyOk}
 use Rattle.rules.specs.Writing.{lengthOf, section, toSectionEnd, toNextPart, writeBody}
-use Rattle.rules.specs.Fields.{Name, header, roomAfter, closingBlanks, parts, payment, end, isLength, firstField, payments, document}
+use Rattle.rules.specs.Fields.{header, roomAfter, closingBlanks, parts, payment, end, isLength, firstField, payments, behindHeader, document}
 use Rattle.rules.proofs.MarkLaws.{see-mark, show-mark, mark-fits, room-left, some-mark}
 use Rattle.rules.proofs.PaymentSays.{GoodPayment, payment-says}
 use Rattle.rules.proofs.EndSays.{Within, end-begins, payment-begins}
 use Rattle.rules.proofs.SumLaws.{Bounded, bounded-none, bounded-adding, account-room, bank-room}
 
--- fixed bytes; a text of 27 letters
-ok : Unit {0} × Unit {0} × Unit {0}
-ok = (tt, tt, tt)
-
+-- a text of 27 letters
 letters : List ℕ
 letters = replicate 27 0x41
 
@@ -161,15 +158,9 @@ payments-viable (suc left) kind t h b c d = (
 
 pub document-viable : Viable document
 unfolding document MayGoOn
-document-viable = viable-bind header onward header-viable (λ r. onward-viable (value header r))
+document-viable = viable-bind header behindHeader header-viable (λ r. behind-viable (value header r))
   where
-    close : Header → List Payment → Form Name Document
-    close h ps = ret (record { header = h; payments = ps })
-
-    onward : Header → Form Name Document
-    onward h = payments mostPayments (h .fileKind) noTotals >>= close h
-
-    onward-viable : (h : Header) → Viable (onward h)
-    onward-viable h =
-        viable-bind (payments mostPayments (h .fileKind) noTotals) (close h)
+    behind-viable : (h : Header) → Viable (behindHeader h)
+    behind-viable h =
+        viable-bind (payments mostPayments (h .fileKind) noTotals) _
         (payments-viable mostPayments (h .fileKind) noTotals (omega arith) bounded-none (omega arith) (inr (omega arith, omega arith))) (λ s. tt)

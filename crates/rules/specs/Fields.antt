@@ -184,8 +184,13 @@ payments (suc left) kind t = do
     ps ← payments left kind (adding t p)
     ret (p ∷ ps))
 
+-- all that follows A
+abbrev pub behindHeader : Header → Form Name Document
+behindHeader h = do
+  ps ← payments mostPayments (h .fileKind) noTotals
+  ret (record { header = h; payments = ps })
+
 unfoldable pub document : Form Name Document
 document = do
   h ← header
-  ps ← payments mostPayments (h .fileKind) noTotals
-  ret (record { header = h; payments = ps })
+  behindHeader h
