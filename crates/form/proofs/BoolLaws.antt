@@ -31,6 +31,10 @@ pub or-right : (a b : Bool) → T b → T (a || b)
 or-right true b t = tt
 or-right false b t = t
 
+pub or-first : (a : Bool) → T (a || false) → T a
+or-first true t = tt
+or-first false t = absurd t
+
 -- where the first does not hold, the second does
 pub or-other : (a b : Bool) → T (not a) → T (a || b) → T b
 or-other true b n t = absurd n

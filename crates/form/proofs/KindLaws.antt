@@ -9,8 +9,9 @@ use mathlib.Core.Option.{none, some}
 use lib.ListN.{length, length-replicate}
 use lib.Dec.{T, leb, ltb, eqb, leb→le, ltb→lt, le→leb, lt→ltb, eqb→eq, eqb-refl}
 use borrow.Author.Tests.{ne-eqb}
-use Rattle.form.specs.Kind.{Kind, fixed, digits, maybe, text, choice, Value, width, fits, spell, numeral, every, same, among, blanks}
-use Rattle.form.specs.Reader.{Reason, not-fixed, not-digit, not-sign, has, ifSo, digit, number, optional, judge}
+use Rattle.form.specs.Kind.{Kind, fixed, digits, maybe, text, choice, Value, width, fits, spell, numeral, every, same, among, digit, blanks}
+use Rattle.form.specs.Reader.{Reason, not-fixed, not-digit, not-sign, has, ifSo, number, optional, judge}
+use Rattle.form.proofs.AnswerLaws.{has-or-lacks}
 use Rattle.form.proofs.BoolLaws.{is-true, T-of, and-both, and-of}
 
 -- ---- rows of bytes
@@ -97,7 +98,7 @@ not-blank (suc w) n h = rw (ne-eqb 32 (48 + n / 10 ^ w) (omega arith))
 -- what a test that lets pass says
 pub so : {X : Type 0} (b : Bool) (x y : X) (z : Reason) → ifSo b x z ≡ has y → T b × (x ≡ y)
 so true x y z e = (tt, cc)
-so false x y z e = absurd (let c : _≡_ {A = ℕ} 0 1 = cc in omega arith)
+so false x y z e = absurd (has-or-lacks (sym e))
 
 empty : (f : List ℕ) → length f ≡ 0 → f ≡ []
 empty [] e = refl

@@ -2,7 +2,7 @@
 use Prim.Native.Nat.{ℕ, _+_, _≤_}
 use native.Mathlib.Nat.{add-zero}
 use native.Mathlib.Omega.{arith}
-use mathlib.Core.Path.{_≡_, refl, ap, _∙_}
+use mathlib.Core.Path.{_≡_, refl, sym, ap, _∙_}
 use mathlib.Core.Bool.{Bool, true, false}
 use mathlib.Core.List.{List}
 use lib.ListN.{length, take, drop, length-drop, drop-of-length-le}
@@ -12,6 +12,7 @@ use borrow.Author.Tests.{le-leb, lt-leb, leb-true, leb-false}
 use Rattle.form.specs.Kind.{Kind, Value, width}
 use Rattle.form.specs.Form.{Rule, Form, ret, field, _>>=_}
 use Rattle.form.specs.Reader.{Refusal, Answer, accepted, refused, Look, has, lacks, _then_, judge, obey, settle, ifWhole, look, later, onward, run}
+use Rattle.form.proofs.AnswerLaws.{has-or-lacks}
 use Rattle.form.specs.Place.{lookAt, fieldAt, done, goOn, readAt, andThen, ifOver, over}
 
 -- ---- one form after another
@@ -61,7 +62,7 @@ whole-inside {X} n l x v e = by (leb n l) refl e
   where
     by : (b : Bool) → leb n l ≡ b → ifWhole b x ≡ has v → n ≤ l
     by true q e = leb-true n l q
-    by false q e = absurd (let c : _≡_ {A = ℕ} 0 1 = cc in omega arith)
+    by false q e = absurd (has-or-lacks (sym e))
 
 -- a field that was read lies inside the file
 pub look-inside : (κ : Kind) (f : List ℕ) (p : ℕ) (v : Value κ) → lookAt κ f p ≡ has v → p + width κ ≤ length f
@@ -73,7 +74,7 @@ field-inside κ rs f p v e = by (lookAt κ f p) refl e
   where
     by : (l : Look (Value κ)) → lookAt κ f p ≡ l → _then_ l (λ v. obey (rs v) v) ≡ has v → p + width κ ≤ length f
     by (has u) q e = look-inside κ f p u q
-    by (lacks z) q e = absurd (let c : _≡_ {A = ℕ} 0 1 = cc in omega arith)
+    by (lacks z) q e = absurd (has-or-lacks (sym e))
 
 -- the answer to the bytes from a place on is what reading there gives
 pub run-place : {N A : Type 0} (m : Form N A) (f : List ℕ) (p : ℕ) → p ≤ length f → later p (run m (drop p f)) ≡ over (readAt m f p) (length f)

@@ -15,6 +15,7 @@ use Rattle.form.specs.Kind.{Kind, Value, width, fits, spell}
 use Rattle.form.specs.Form.{Rule, rule, Holds, Form, ret, field, Content, Filled, value, bytes, Begins, Viable}
 use Rattle.form.specs.Reader.{Reason, short, Refusal, Answer, accepted, refused, Look, has, lacks, _then_, judge, obey, settle, later, onward, run}
 use Rattle.form.proofs.BoolLaws.{is-true, T-of}
+use Rattle.form.proofs.AnswerLaws.{has-or-lacks, accepted-or-refused, same-refusal}
 use Rattle.form.proofs.KindLaws.{spell-length, judge-spell, judge-has}
 
 -- ---- a whole field
@@ -27,7 +28,7 @@ obey-holds (rule n false ∷ rs) v h = absurd h.0
 pub obey-has : {X : Type 0} (rs : List Rule) (u v : X) → obey rs u ≡ has v → Holds rs × (u ≡ v)
 obey-has [] u v e = (tt, cc)
 obey-has (rule n true ∷ rs) u v e = let h = obey-has rs u v e in ((tt, h.0), h.1)
-obey-has (rule n false ∷ rs) u v e = absurd (let z : _≡_ {A = ℕ} 0 1 = cc in omega arith)
+obey-has (rule n false ∷ rs) u v e = absurd (has-or-lacks (sym e))
 
 module _ (κ : Kind) (rs : Value κ → List Rule) where
   settle-content : (c : Content κ rs) → settle κ rs (spell κ (c .0)) ≡ has (c .0)
@@ -42,7 +43,7 @@ module _ (κ : Kind) (rs : Value κ → List Rule) where
           let h = obey-has (rs u) u v e in
           let g = judge-has κ f v l (p ∙ ap {B = Look (Value κ)} has h.1) in
           (g.0, rw h.1 at h.0, g.1)
-      by (lacks z) p e = absurd (let c : _≡_ {A = ℕ} 0 1 = cc in omega arith)
+      by (lacks z) p e = absurd (has-or-lacks (sym e))
 
 -- how the reader goes on from a field that is there
 step : {N A : Type 0} (ν : N) (κ : Kind) (rs : Value κ → List Rule) (next : Value κ → Form N A) (f g : List ℕ) → length f ≡ width κ
@@ -87,17 +88,17 @@ meet ν κ rs next f = by (leb w (length f)) (settle κ rs (take w f)) refl refl
 
 later-accepted : {N A : Type 0} (w : ℕ) (x : Answer N A) (a : A) → later w x ≡ accepted a → x ≡ accepted a
 later-accepted w (accepted b) a e = e
-later-accepted w (refused r) a e = absurd (let c : _≡_ {A = ℕ} 0 1 = cc in omega arith)
+later-accepted w (refused r) a e = absurd (accepted-or-refused (sym e))
 
 -- what is accepted is a filled form
 pub sound : {N A : Type 0} (m : Form N A) (f : List ℕ) (a : A) → run m f ≡ accepted a → (r : Filled m) × (value m r ≡ a) × (bytes m r ≡ f)
 unfolding run
 sound (ret b) [] a e = (tt, cc, refl)
-sound (ret b) (x ∷ xs) a e = absurd (let c : _≡_ {A = ℕ} 0 1 = cc in omega arith)
+sound (ret b) (x ∷ xs) a e = absurd (accepted-or-refused (sym e))
 sound (field ν κ rs next) f a e =
     elim (meet ν κ rs next f) [
-      | cut p ↦ absurd (let c : _≡_ {A = ℕ} 0 1 = cc in omega arith)
-      | bad z l j p ↦ absurd (let c : _≡_ {A = ℕ} 0 1 = cc in omega arith)
+      | cut p ↦ absurd (accepted-or-refused (sym e ∙ p))
+      | bad z l j p ↦ absurd (accepted-or-refused (sym e ∙ p))
       | good v l j p ↦
           let g = settle-has κ rs (take (width κ) f) v (length-take-le (width κ) f l) j in
           let i = sound (next v) (drop (width κ) f) a (later-accepted (width κ) (run (next v) (drop (width κ) f)) a (sym p ∙ e)) in
@@ -110,9 +111,6 @@ one-reading m r s e = let c = complete m r in let d = complete m s in let h = ap
 
 -- ---- the place of a refusal
 
-pub same-refusal : {N A : Type 0} (q r : Refusal N) → _≡_ {A = Answer N A} (refused q) (refused r) → q ≡ r
-same-refusal q r e = cc
-
 -- a refusal after w bytes is a refusal of what follows them
 pub record Behind {N A : Type 0} (w : ℕ) (x : Answer N A) (r : Refusal N) : Type 0 where
   pub there : Refusal N
@@ -122,7 +120,7 @@ pub record Behind {N A : Type 0} (w : ℕ) (x : Answer N A) (r : Refusal N) : Ty
   pub width : r .width ≡ there .width
 
 pub behind : {N A : Type 0} (w : ℕ) (x : Answer N A) (r : Refusal N) → later w x ≡ refused r → Behind w x r
-behind w (accepted b) r e = absurd (let c : _≡_ {A = ℕ} 0 1 = cc in omega arith)
+behind w (accepted b) r e = absurd (accepted-or-refused e)
 behind {N} w (refused q) r e =
     let h = same-refusal (record { reason = q .reason; place = w + q .place; width = q .width; name = q .name }) r e in
     record {
@@ -136,7 +134,7 @@ behind {N} w (refused q) r e =
 -- it lies in the file, or at its end
 pub place-inside : {N A : Type 0} (m : Form N A) (f : List ℕ) (r : Refusal N) → run m f ≡ refused r → r .place ≤ length f
 unfolding run
-place-inside (ret b) [] r e = absurd (let c : _≡_ {A = ℕ} 0 1 = cc in omega arith)
+place-inside (ret b) [] r e = absurd (accepted-or-refused e)
 place-inside {N} (ret b) (x ∷ xs) r e = omega (arith, ap (λ (y : Refusal N). y .place) (sym (same-refusal _ r e)))
 place-inside {N} (field ν κ rs next) f r e =
     elim (meet ν κ rs next f) [
@@ -164,7 +162,7 @@ begins-with-nothing m q f p e = let r = some-filling m q in rw e (r, bytes m r, 
 -- they begin a filled form
 pub ahead : {N A : Type 0} (m : Form N A) → Viable m → (f : List ℕ) (r : Refusal N) → run m f ≡ refused r → Begins m (take (r .place) f)
 unfolding run
-ahead (ret b) q [] r e = absurd (let c : _≡_ {A = ℕ} 0 1 = cc in omega arith)
+ahead (ret b) q [] r e = absurd (accepted-or-refused e)
 ahead {N} (ret b) q (x ∷ xs) r e = begins-with-nothing {N = N} (ret b) q (x ∷ xs) (r .place) (ap (λ (y : Refusal N). y .place) (sym (same-refusal _ r e)))
 ahead {N} (field ν κ rs next) q f r e =
     elim (meet ν κ rs next f) [
@@ -196,7 +194,7 @@ module _ {N A : Type 0} (ν : N) (κ : Kind) (rs : Value κ → List Rule) (next
 pub local : {N A : Type 0} (m : Form N A) (f : List ℕ) (r : Refusal N) → r .reason ≢ short → run m f ≡ refused r
     → (rest : List ℕ) → run m (take (r .place + r .width) f ++ rest) ≡ refused r
 unfolding run
-local (ret b) [] r w e rest = absurd (let c : _≡_ {A = ℕ} 0 1 = cc in omega arith)
+local (ret b) [] r w e rest = absurd (accepted-or-refused e)
 local (ret b) (x ∷ xs) r w e rest = let h = same-refusal _ r e in rw (← h)
 local {N} (field ν κ rs next) f r w e rest =
     elim (meet ν κ rs next f) [
@@ -215,6 +213,4 @@ local {N} (field ν κ rs next) f r w e rest =
 -- they begin no filled form
 pub through : {N A : Type 0} (m : Form N A) (f : List ℕ) (r : Refusal N) → r .reason ≢ short → run m f ≡ refused r
     → ¬ Begins m (take (r .place + r .width) f)
-through m f r w e b =
-    let h = sym (complete m b.0) ∙ ap (run m) b.2 ∙ local m f r w e b.1 in
-    absurd (let z : _≡_ {A = ℕ} 0 1 = cc in omega arith)
+through m f r w e b = accepted-or-refused (sym (complete m b.0) ∙ ap (run m) b.2 ∙ local m f r w e b.1)

@@ -4,7 +4,7 @@ use mathlib.Core.Bool.{Bool, true, false, _&&_, _||_}
 use mathlib.Core.List.{List, [], _∷_}
 use mathlib.Core.Option.{Option, none, some}
 use lib.ListN.{length, replicate}
-use lib.Dec.{ltb, eqb}
+use lib.Dec.{leb, ltb, eqb}
 
 pub data Kind : Type 0 where
   fixed : List ℕ → Kind  -- these bytes
@@ -28,10 +28,14 @@ width (maybe w) = w
 width (text sign w) = w
 width (choice w words) = w
 
--- all of them are so
-abbrev pub every : (ℕ → Bool) → List ℕ → Bool
+-- all of them are so; one of them is so
+abbrev pub every : {A : Type 0} → (A → Bool) → List A → Bool
 every p [] = true
-every p (b ∷ bs) = p b && every p bs
+every p (x ∷ xs) = p x && every p xs
+
+abbrev pub one : {A : Type 0} → (A → Bool) → List A → Bool
+one p [] = false
+one p (x ∷ xs) = p x || one p xs
 
 -- two rows of bytes are the same
 abbrev pub same : List ℕ → List ℕ → Bool
@@ -42,8 +46,7 @@ same (x ∷ xs) (y ∷ ys) = eqb x y && same xs ys
 
 -- a word is one of these
 abbrev pub among : List (List ℕ) → List ℕ → Bool
-among [] v = false
-among (u ∷ us) v = same u v || among us v
+among words v = one (λ w. same w v) words
 
 -- which values a field of the kind has room for
 abbrev pub fits : (κ : Kind) → Value κ → Bool
@@ -54,7 +57,11 @@ fits (maybe w) (some n) = ltb 0 w && ltb n (10 ^ w)
 fits (text sign w) s = eqb (length s) w && every sign s
 fits (choice w words) v = eqb (length v) w && among words v
 
--- a number in w digits, the highest first; a digit is a byte from 48 on
+-- digits are the bytes 48 to 57
+abbrev pub digit : ℕ → Bool
+digit b = leb 48 b && leb b 57
+
+-- a number in w digits, the highest first
 unfoldable pub numeral : ℕ → ℕ → List ℕ
 numeral zero n = []
 numeral (suc w) n = (48 + n / 10 ^ w) ∷ numeral w (n % 10 ^ w)

@@ -1,12 +1,12 @@
 -- The reader of a form: it examines the fields in the order of the file, each whole, then its bytes, then its rules in their order, and
 -- gives what was read or the first refusal.
 use Prim.Native.Nat.{ℕ, _+_, _-_, _*_, _^_}
-use mathlib.Core.Bool.{Bool, true, false, _&&_}
+use mathlib.Core.Bool.{Bool, true, false}
 use mathlib.Core.List.{List, [], _∷_}
 use mathlib.Core.Option.{Option, none, some}
 use lib.ListN.{length, take, drop}
 use lib.Dec.{leb}
-use Rattle.form.specs.Kind.{Kind, fixed, digits, maybe, text, choice, Value, width, every, same, among, blanks}
+use Rattle.form.specs.Kind.{Kind, fixed, digits, maybe, text, choice, Value, width, every, same, among, digit, blanks}
 use Rattle.form.specs.Form.{Rule, rule, Form, ret, field}
 
 -- why a file is refused
@@ -40,9 +40,6 @@ ifSo false v z = lacks z
 abbrev pub _then_ : {X Y : Type 0} → Look X → (X → Look Y) → Look Y
 _then_ (has v) k = k v
 _then_ (lacks z) k = lacks z
-
-abbrev pub digit : ℕ → Bool
-digit b = leb 48 b && leb b 57
 
 -- the number that digits spell
 unfoldable pub number : List ℕ → ℕ

@@ -1,5 +1,5 @@
 -- The fields of E and the first field after A or a C: which figures E can hold, and when E or a C may begin.
-use Prim.Native.Nat.{ℕ, zero, suc, _+_, _-_, _*_, _%_, _^_, _≤_, _<_}
+use Prim.Native.Nat.{ℕ, _+_, _-_, _*_, _%_, _^_, _≤_, _<_}
 use native.Mathlib.Omega.{arith}
 use mathlib.Core.Path.{_≡_, refl}
 use mathlib.Core.Bool.{Bool, true, false, _&&_, _||_}
@@ -7,10 +7,10 @@ use mathlib.Core.List.{[]}
 use lib.Dec.{T, leb, ltb, eqb, leb→le, ltb→lt, le→leb, lt→ltb, eqb→eq, eqb-refl}
 use borrow.Author.Tests.{ne-eqb}
 use Rattle.form.specs.Form.{Holds, Filled, value, bytes}
-use Rattle.form.proofs.BoolLaws.{and-of, or-left}
+use Rattle.form.proofs.BoolLaws.{and-of, or-left, or-first}
 use Rattle.form.proofs.RulesLaws.{_▸_, ok, Filling}
 use Rattle.rules.specs.Values.{Totals}
-use Rattle.rules.specs.Rules.{mostPayments, mostCents, sumLimit, notZero}
+use Rattle.rules.specs.Rules.{mostPayments, mostCents, sumLimit}
 use Rattle.rules.specs.Writing.{lengthOf, writeFigures}
 use Rattle.rules.specs.Fields.{end, isLength, firstField}
 
@@ -70,10 +70,6 @@ pub payment-begins : (t : Totals) (k : ℕ) → k ≤ 15 → t .count < mostPaym
 payment-begins t k h n c =
     rw (ne-eqb (lengthOf k) 128 (omega arith)) (length-is k h, (omega (arith, lt→ltb), (omega (arith, lt→ltb), tt)))
 
-or-first : (b : Bool) → T (b || false) → T b
-or-first true t = tt
-or-first false t = absurd t
-
 pub end-some : (t : Totals) (l : ℕ) → l ≡ 128 → Holds (firstField t l) → 1 ≤ t .count
 end-some t l e h = leb→le 1 (t .count) (or-first (leb 1 (t .count)) (rw e at (h .0)))
 
@@ -84,7 +80,3 @@ must-end t l m h = by (ltb (t .count) mostPayments) (λ b. omega (arith, m, ltb�
     by : (b : Bool) → (T b → ⊥) → T (eqb l 128 || b) → l ≡ 128
     by true n t = absurd (n tt)
     by false n t = eqb→eq l 128 (or-first (eqb l 128) t)
-
-pub some-cents : (v : ℕ) → T (notZero v) → 1 ≤ v
-some-cents zero h = absurd h
-some-cents (suc v) h = omega arith

@@ -17,7 +17,8 @@ use Rattle.rules.specs.Writing.{lengthOf, writeHeader, writeBody, writeP
 use Rattle.rules.specs.Fields.{Name, header, payment, end, firstField, payments, behindHeader, document}
 use Rattle.rules.proofs.HeaderSays.{header-says}
 use Rattle.rules.proofs.PaymentSays.{GoodPayment, few-parts, payment-says}
-use Rattle.rules.proofs.EndSays.{Within, end-fill, end-told, end-begins, payment-begins, end-some, must-end, some-cents}
+use Rattle.rules.proofs.EndSays.{Within, end-fill, end-told, end-begins, payment-begins, end-some, must-end}
+use Rattle.rules.proofs.FieldLaws.{at-least-one}
 
 -- ---- the payments still to come, after payments that come to t
 
@@ -136,7 +137,7 @@ module _ (left : ℕ) (kind : List ℕ) (t : Totals) (h : t .count + suc left �
 
   -- a payment that may come has at least a cent
   below-top : {l : ℕ} (p : Payment) → LegalPayment kind p → GoodPayment kind t l p → t .cents < mostCents
-  below-top p q g = omega (arith, g .cents, some-cents (p .cents) (q .C12-some))
+  below-top p q g = omega (arith, g .cents, at-least-one (p .cents) (q .C12-some))
 
   -- the others fill in what follows a payment
   others-fill : (p : Payment) (ps : List Payment) → Within (adding t p) → GoodFrom left kind (adding t p) ps

@@ -8,14 +8,14 @@ use mathlib.Core.Bool.{Bool}
 use mathlib.Core.List.{List, [], _∷_}
 use lib.ListN.{length, length-append, length-replicate}
 use lib.Dec.{T, eqb, eqb→eq}
-use Rattle.form.specs.Kind.{every, among}
+use Rattle.form.specs.Kind.{every}
 use Rattle.form.proofs.BoolLaws.{and-both}
 use Rattle.form.proofs.KindLaws.{numeral-length}
 use Rattle.rules.specs.Calendar.{Day}
 use Rattle.rules.specs.Values.{Header, Part, Payment, Totals}
-use Rattle.rules.specs.Rules.{All, Text, fileKinds, LegalHeader, LegalPayment}
+use Rattle.rules.specs.Rules.{All, Text, LegalHeader, LegalPayment}
 use Rattle.rules.specs.Writing.{section, toSectionEnd, toNextPart, writeExecution, writeHeader, writeParts, writePayment, writeEnd}
-use Rattle.rules.proofs.FieldLaws.{kind-fits}
+use Rattle.rules.proofs.FieldLaws.{kind-length}
 use Rattle.rules.proofs.PaymentSays.{few-parts}
 
 execution-length : (e : Option Day) → length (writeExecution e) ≡ 8
@@ -24,8 +24,7 @@ execution-length (some d) = numeral-length 8 _
 
 pub header-length : (h : Header) → LegalHeader h → length (writeHeader h) ≡ 128
 header-length h l =
-    let kind : length (h .fileKind) ≡ 2 = eqb→eq (length (h .fileKind)) 2 (and-both (eqb (length (h .fileKind)) 2) (among fileKinds (h .fileKind)) (kind-fits (h .fileKind) (l .A3)) .0) in
-    simp (length-append, numeral-length, execution-length) (omega (arith, l .A6 .long))
+    simp (length-append, numeral-length, execution-length) (omega (arith, kind-length (h .fileKind) (l .A3), l .A6 .long))
 
 pub end-length : (t : Totals) → length (writeEnd t) ≡ 128
 end-length t = simp (length-append, numeral-length) (omega arith)

@@ -1,12 +1,12 @@
--- The bytes of the diskette's code: quoted words, blanks and zeros, and the signs that a text may hold.
+-- The bytes of the diskette's code: quoted words, zeros, and the signs that a text may hold.
 use Prim.Native.Nat.{ℕ}
 use Prim.Native.Char.{code}
 use Prim.Native.String.{String}
-use mathlib.Core.Bool.{Bool, false, _&&_, _||_, not}
+use mathlib.Core.Bool.{Bool, _&&_, _||_, not}
 use mathlib.Core.List.{List, [], _∷_}
 use lib.ListN.{replicate}
 use lib.Dec.{leb, eqb}
-use Rattle.form.specs.Kind.{every}
+use Rattle.form.specs.Kind.{every, one, digit}
 
 -- the bytes of a quoted word
 abbrev pub ascii : String → List ℕ
@@ -16,9 +16,12 @@ ascii (String._∷_ c s) = code c ∷ ascii s
 abbrev pub zeros : ℕ → List ℕ
 zeros n = replicate n 0x30
 
+-- a number, or a byte, is one of these
 abbrev pub oneOf : List ℕ → ℕ → Bool
-oneOf [] b = false
-oneOf (x ∷ xs) b = eqb b x || oneOf xs b
+oneOf xs b = one (λ x. eqb b x) xs
+
+abbrev pub capital : ℕ → Bool
+capital b = leb 0x41 b && leb b 0x5A
 
 -- blank, full stop, comma, and, hyphen, stroke, plus, star, dollar, per cent
 abbrev pub specialSigns : List ℕ
@@ -29,7 +32,7 @@ umlauts = 0x5B ∷ 0x5C ∷ 0x5D ∷ 0x7E ∷ []
 
 -- the permitted signs: digits, capitals, the special signs, the umlauts
 abbrev pub sign : ℕ → Bool
-sign b = (leb 0x30 b && leb b 0x39) || ((leb 0x41 b && leb b 0x5A) || (oneOf specialSigns b || oneOf umlauts b))
+sign b = digit b || (capital b || (oneOf specialSigns b || oneOf umlauts b))
 
 abbrev pub notAllBlank : List ℕ → Bool
 notAllBlank t = not (every (λ b. eqb b 0x20) t)
