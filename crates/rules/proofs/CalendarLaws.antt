@@ -1,8 +1,9 @@
 -- The calendar counted and the calendar stepped through agree: the day after a day has the next number, and no two days have the same.
 use Prim.Native.Nat.{ℕ, zero, suc, _+_, _-_, _*_, _/_, _%_, _≤_, _<_}
+use native.Mathlib.Nat.{div-add-mod', mul-add-div-right, div-eq-of-lt, mod-lt, add-zero}
 use native.Mathlib.Omega.{arith}
 use native.Mathlib.Decide.{decLt}
-use mathlib.Core.Path.{_≡_, refl, ap, _∙_}
+use mathlib.Core.Path.{_≡_, refl, sym, ap, _∙_}
 use mathlib.Core.Logic.{_↔_}
 use mathlib.Core.Bool.{Bool, true, false, _&&_, _||_, not, cond}
 use lib.Dec.{T, leb, ltb, eqb, leb→le, le→leb}
@@ -75,24 +76,23 @@ month-most y m = by (eqb m 2) (thirtyDays m)
 
 -- ---- years
 
--- a year's number divided: one more where the year itself is a multiple
-by-4 : (z : ℕ) → suc z % 4 ≡ 0 → suc z / 4 ≡ z / 4 + 1
-by-4 z e = omega arith
+-- a year's number divided: one more where the year itself is a multiple, the same where it is none
+module _ (k z : ℕ) (some : 0 < k) where
+  parted : suc z / k * k + suc z % k ≡ suc z
+  parted = div-add-mod' (suc z) k
 
-by-100 : (z : ℕ) → suc z % 100 ≡ 0 → suc z / 100 ≡ z / 100 + 1
-by-100 z e = omega arith
+  whole-part : (q r : ℕ) → r < k → q * k + r ≡ z → z / k ≡ q
+  whole-part q r h e = rw (← e, mul-add-div-right some q r, div-eq-of-lt h, add-zero)
 
-by-400 : (z : ℕ) → suc z % 400 ≡ 0 → suc z / 400 ≡ z / 400 + 1
-by-400 z e = omega arith
+  multiple : suc z % k ≡ 0 → suc z / k ≡ z / k + 1
+  multiple e = by (suc z / k) (rw e at parted)
+    where
+      by : (q : ℕ) → q * k + 0 ≡ suc z → q ≡ z / k + 1
+      by zero h = absurd (omega arith)
+      by (suc q) h = rw (whole-part q (k - 1) (omega arith) (omega arith)) (omega arith)
 
-not-by-4 : (z : ℕ) → (suc z % 4 ≡ 0 → ⊥) → suc z / 4 ≡ z / 4
-not-by-4 z e = omega arith
-
-not-by-100 : (z : ℕ) → (suc z % 100 ≡ 0 → ⊥) → suc z / 100 ≡ z / 100
-not-by-100 z e = omega arith
-
-not-by-400 : (z : ℕ) → (suc z % 400 ≡ 0 → ⊥) → suc z / 400 ≡ z / 400
-not-by-400 z e = omega arith
+  no-multiple : (suc z % k ≡ 0 → ⊥) → suc z / k ≡ z / k
+  no-multiple e = sym (whole-part (suc z / k) (suc z % k - 1) (omega (arith, mod-lt (suc z) some)) (omega (arith, parted)))
 
 fewer-centuries : (z : ℕ) → z / 100 ≤ z / 4
 fewer-centuries z = omega arith
@@ -108,16 +108,16 @@ years-step z = by (eqb (y % 4) 0) (eqb (y % 100) 0) (eqb (y % 400) 0) refl refl 
     by : (a b c : Bool) → eqb (y % 4) 0 ≡ a → eqb (y % 100) 0 ≡ b → eqb (y % 400) 0 ≡ c
         → 365 * y + y / 4 - y / 100 + y / 400 ≡ 365 * z + z / 4 - z / 100 + z / 400 + (365 + cond (a && (not b || c)) 1 0)
     by true true true p q r =
-        rw (by-4 z (eqb-true (y % 4) 0 p), by-100 z (eqb-true (y % 100) 0 q), by-400 z (eqb-true (y % 400) 0 r)) (omega (arith, fewer-centuries z))
+        rw (multiple 4 z (omega arith) (eqb-true (y % 4) 0 p), multiple 100 z (omega arith) (eqb-true (y % 100) 0 q), multiple 400 z (omega arith) (eqb-true (y % 400) 0 r)) (omega (arith, fewer-centuries z))
     by true true false p q r =
-        rw (by-4 z (eqb-true (y % 4) 0 p), by-100 z (eqb-true (y % 100) 0 q), not-by-400 z (eqb-false (y % 400) 0 r)) (omega (arith, fewer-centuries z))
+        rw (multiple 4 z (omega arith) (eqb-true (y % 4) 0 p), multiple 100 z (omega arith) (eqb-true (y % 100) 0 q), no-multiple 400 z (omega arith) (eqb-false (y % 400) 0 r)) (omega (arith, fewer-centuries z))
     by true false true p q r = absurd (eqb-false (y % 100) 0 q (let h = eqb-true (y % 400) 0 r in omega arith))
     by true false false p q r =
-        rw (by-4 z (eqb-true (y % 4) 0 p), not-by-100 z (eqb-false (y % 100) 0 q), not-by-400 z (eqb-false (y % 400) 0 r)) (omega (arith, fewer-centuries z))
+        rw (multiple 4 z (omega arith) (eqb-true (y % 4) 0 p), no-multiple 100 z (omega arith) (eqb-false (y % 100) 0 q), no-multiple 400 z (omega arith) (eqb-false (y % 400) 0 r)) (omega (arith, fewer-centuries z))
     by false true c p q r = absurd (eqb-false (y % 4) 0 p (let h = eqb-true (y % 100) 0 q in omega arith))
     by false false true p q r = absurd (eqb-false (y % 4) 0 p (let h = eqb-true (y % 400) 0 r in omega arith))
     by false false false p q r =
-        rw (not-by-4 z (eqb-false (y % 4) 0 p), not-by-100 z (eqb-false (y % 100) 0 q), not-by-400 z (eqb-false (y % 400) 0 r)) (omega (arith, fewer-centuries z))
+        rw (no-multiple 4 z (omega arith) (eqb-false (y % 4) 0 p), no-multiple 100 z (omega arith) (eqb-false (y % 100) 0 q), no-multiple 400 z (omega arith) (eqb-false (y % 400) 0 r)) (omega (arith, fewer-centuries z))
 
 years-up : (n z : ℕ) → yearsDays z ≤ yearsDays (z + n)
 years-up zero z = let h : z + zero ≡ z = omega arith in rw h (omega arith)
@@ -321,13 +321,16 @@ first-number : dayNumber firstDay ≡ 1
 unfolding dayNumber yearsDays monthsDays
 first-number = refl
 
--- the days are those that are come to from the first, one after another, and the number of a day is its place among them
+-- the days are exactly those that are come to from the first, one after another, and the number of a day is its place among them
 pub every-day-stepped : (d : Day) → T (isDay d) → d ≡ daysAfter (dayNumber d - 1) firstDay
 every-day-stepped d t =
     let h = see-day d t in
     let some : 1 ≤ dayNumber d = omega (arith, number-from d h) in
     let s = steps-counted (dayNumber d - 1) firstDay first-day (omega (arith, first-number, number-most d h)) in
     number-one d (daysAfter (dayNumber d - 1) firstDay) h s.0 (omega (arith, s.1, first-number))
+
+pub every-step-a-day : (n : ℕ) → n < dayNumber lastDay → T (isDay (daysAfter n firstDay))
+every-step-a-day n h = show-day (daysAfter n firstDay) (steps-counted n firstDay first-day (omega (arith, first-number)) .0)
 
 -- ---- the span
 

@@ -15,15 +15,20 @@ use Rattle.rules.specs.Fields.{Name, mark, words, text27, roomAfter, mar
 use Rattle.rules.proofs.MarkLaws.{Allowed, see-mark, show-mark, mark-fits, Walked}
 use Rattle.rules.proofs.FieldLaws.{text-fits, fits-text}
 
--- ---- closing blanks
+-- ---- closing blanks, and then a form
 
-abbrev Always : Value (fixed []) → Type 0
-Always u = Unit {0}
-
-pub closing-says : (s n : ℕ) → Says (closingBlanks s n) Always (λ u. blanks n)
+closing-says : (s n : ℕ) → Says (closingBlanks s n) (λ u. Unit {0}) (λ u. blanks n)
 closing-says s zero = record { fill = λ u g. (tt, refl, refl); told = λ r. (tt, tt, refl, refl) }
 closing-says s (suc n) =
     record { fill = λ u g. (ok ▸ tt, refl, append-nil (blanks (suc n))); told = λ r. (tt, tt, refl, append-nil (blanks (suc n))) }
+
+module _ (s n : ℕ) (k : Value (fixed []) → Form Name (List Part)) where
+  blanks-fill : (r : Filled (k tt)) → Filling (closingBlanks s n >>= k) (value (k tt) r) (blanks n ++ bytes (k tt) r)
+  blanks-fill = then-fill (closingBlanks s n) (λ u. Unit {0}) (λ u. blanks n) (closing-says s n) k tt tt
+
+  blanks-told : (r : Filled (closingBlanks s n >>= k))
+      → (q : Filled (k tt)) × (value (closingBlanks s n >>= k) r ≡ value (k tt) q) × (bytes (closingBlanks s n >>= k) r ≡ blanks n ++ bytes (k tt) q)
+  blanks-told r = let t = then-told (closingBlanks s n) (λ u. Unit {0}) (λ u. blanks n) (closing-says s n) k r in (t.2, t.3, t.4)
 
 -- ---- parts
 
@@ -42,19 +47,14 @@ none-left : (i room : ℕ) → Says (parts zero i room) (GoodParts zero room) (w
 unfolding parts
 none-left i room = record { fill = fill; told = told }
   where
-    s : Says (closingBlanks (section i) (toSectionEnd i)) Always (λ u. blanks (toSectionEnd i))
-    s = closing-says (section i) (toSectionEnd i)
-
     fill : (ps : List Part) → GoodParts zero room ps → Filling (parts zero i room) ps (writeParts i ps)
-    fill [] g =
-        let t = then-fill (closingBlanks (section i) (toSectionEnd i)) Always (λ u. blanks (toSectionEnd i)) s (λ u. ret []) tt tt tt in
-        (t.0, t.1, t.2 ∙ append-nil (blanks (toSectionEnd i)))
+    fill [] g = let t = blanks-fill (section i) (toSectionEnd i) (λ u. ret []) tt in (t.0, t.1, t.2 ∙ append-nil (blanks (toSectionEnd i)))
     fill (q ∷ qs) g = absurd (omega arith)
 
     told : (r : Filled (parts zero i room)) → Told (GoodParts zero room) (writeParts i) (value (parts zero i room) r) (bytes (parts zero i room) r)
     told r =
-        let t = then-told (closingBlanks (section i) (toSectionEnd i)) Always (λ u. blanks (toSectionEnd i)) s (λ u. ret []) r in
-        ([], (refl, tt, tt), t.3, t.4 ∙ append-nil (blanks (toSectionEnd i)))
+        let t = blanks-told (section i) (toSectionEnd i) (λ u. ret []) r in
+        ([], (refl, tt, tt), t.1, t.2 ∙ append-nil (blanks (toSectionEnd i)))
 
 -- one part, and those that are left behind it
 module _ (left i room : ℕ) (says : (j x : ℕ) → Says (parts left j x) (GoodParts left x) (writeParts j)) where
@@ -90,8 +90,7 @@ module _ (left i room : ℕ) (says : (j x : ℕ) → Says (parts left j x) (Good
       after-blanks : (r : Filled (behind tt)) (ps : List Part) → value (behind tt) r ≡ ps → blanks (toNextPart i) ++ bytes (behind tt) r ≡ writeParts i ps
           → Filling (parts (suc left) i room) ps (writeParts i ps)
       after-blanks r ps v b =
-          let t = then-fill (closingBlanks (section i) (toNextPart i)) Always (λ u. blanks (toNextPart i)) (closing-says (section i) (toNextPart i)) behind tt tt r in
-          (t.0, t.1 ∙ v, t.2 ∙ b)
+          let t = blanks-fill (section i) (toNextPart i) behind r in (t.0, t.1 ∙ v, t.2 ∙ b)
 
   seen : (ps : List Part) (m : ℕ) → length ps ≡ left → T (markOk room m) → left ≤ roomAfter m room → Allowed room (length (map markOf ps)) m
   seen ps m e h k = rw (length-map ps markOf, e) (see-mark room left m h k)
@@ -109,9 +108,9 @@ module _ (left i room : ℕ) (says : (j x : ℕ) → Says (parts left j x) (Good
   part-told : (r : Filled (parts (suc left) i room)) → Told (GoodParts (suc left) room) (writeParts i) (value (parts (suc left) i room) r) (bytes (parts (suc left) i room) r)
   unfolding parts
   part-told r =
-      let b = then-told (closingBlanks (section i) (toNextPart i)) Always (λ u. blanks (toNextPart i)) (closing-says (section i) (toNextPart i)) behind r in
-      let p = from-part b.2 in
-      (p.0, p.1, b.3 ∙ p.2, b.4 ∙ p.3)
+      let b = blanks-told (section i) (toNextPart i) behind r in
+      let p = from-part b.0 in
+      (p.0, p.1, b.1 ∙ p.2, b.2 ∙ p.3)
 
 pub parts-says : (left i room : ℕ) → Says (parts left i room) (GoodParts left room) (writeParts i)
 parts-says zero i room = none-left i room

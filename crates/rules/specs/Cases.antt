@@ -1,4 +1,4 @@
--- Case M of the requirements, the changes made to it, and some worked cases: what the rules answer to files written out byte by byte.
+-- Case M of the requirements, how it is changed, and some worked cases: what the rules answer to files written out byte by byte.
 use Prim.Native.Nat.{ℕ, _+_, _-_}
 use Prim.Native.String.{String}
 use mathlib.Core.Path.{_≡_, refl}
@@ -15,6 +15,17 @@ use Rattle.rules.specs.Answer.{answer, numberOf, outcome}
 -- a word, and blanks up to a width of 27
 abbrev pub padded : String → List ℕ
 padded s = ascii s ++ blanks (27 - length (ascii s))
+
+-- a file, and the number and the place that it is given
+pub record Case : Type 0 where
+  pub file : List ℕ
+  pub number : ℕ
+  pub place : ℕ
+
+-- what is given; opened, it computes
+unfoldable pub given : Case → ℕ × ℕ
+unfolding answer document payments parts run judge number numeral numberOf outcome toSectionEnd toNextPart isDay monthDays leapDay inSpan dayNumber yearsDays monthsDays ofDDMMYY ofDDMMYYYY
+given c = let o = outcome (answer (c .file)) in (o .number, o .place)
 
 -- ---- case M: 512 bytes
 
@@ -81,22 +92,16 @@ endM =
 abbrev pub fileM : List ℕ
 fileM = inTurn (headerM ∷ paymentM ∷ endM ∷ [])
 
+-- what it is given: one payment, and its three figures
+pub outcomeM : outcome (answer fileM) ≡ record { number = 0; place = 0; totals = record { count = 1; accounts = 7_654_321; bankCodes = 30_050_020; cents = 12_345 } }
+unfolding given
+outcomeM = refl
+
 -- ---- cases
 
 -- these bytes at that place, in the stead of those that stood there
 abbrev pub put : ℕ → String → List ℕ → List ℕ
 put p s f = take p f ++ (ascii s ++ drop (p + length (ascii s)) f)
-
--- a file, and the number and the place that it is given
-pub record Case : Type 0 where
-  pub file : List ℕ
-  pub number : ℕ
-  pub place : ℕ
-
--- what is given; opened, it computes
-unfoldable pub given : Case → ℕ × ℕ
-unfolding answer document payments parts run judge number numeral numberOf outcome toSectionEnd toNextPart isDay monthDays leapDay inSpan dayNumber yearsDays monthsDays ofDDMMYY ofDDMMYYYY
-given c = let o = outcome (answer (c .file)) in (o .number, o .place)
 
 abbrev pub wanted : Case → ℕ × ℕ
 wanted c = (c .number, c .place)

@@ -99,6 +99,7 @@ writeBody p =
     ∷ []
     )
 
+-- C1, and the rest
 abbrev pub writePayment : Payment → List ℕ
 writePayment p = numeral 4 (lengthOf (length (p .parts))) ++ writeBody p
 
@@ -123,6 +124,7 @@ writeFigures t =
     ∷ []
     )
 
+-- E1, and the rest
 abbrev pub writeEnd : Totals → List ℕ
 writeEnd t = numeral 4 128 ++ writeFigures t
 
