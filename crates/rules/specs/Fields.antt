@@ -33,6 +33,12 @@ text27 = text sign 27
 
 -- ---- A
 
+abbrev pub rulesA5 : List ℕ → ℕ → List Rule
+rulesA5 kind v = rule 11 (senderBankOk kind v) ∷ []
+
+abbrev pub rulesA7 : ℕ → List Rule
+rulesA7 n = rule 10 (isDay (ofDDMMYY n)) ∷ []
+
 -- A11b as read: no date, or a day
 abbrev pub executionOf : Option ℕ → Option Day
 executionOf none = none
@@ -42,20 +48,23 @@ abbrev pub executionRules : Day → Option Day → List Rule
 executionRules made none = []
 executionRules made (some d) = rule 10 (isDay d) ∷ rule 10 (inSpan made d) ∷ []
 
+abbrev pub rulesA11b : Day → Option ℕ → List Rule
+rulesA11b made n = executionRules made (executionOf n)
+
 abbrev pub header : Form Name Header
 header = do
   must A1 (ascii "0128")
   must A2 (ascii "A")
   kind ← any A3 (choice 2 fileKinds)
   bankCode ← any A4 (digits 8)
-  senderBank ← get A5 (digits 8) (λ v. rule 11 (senderBankOk kind v) ∷ [])
+  senderBank ← get A5 (digits 8) (rulesA5 kind)
   sender ← any A6 text27
-  made ← get A7 (digits 6) (λ n. rule 10 (isDay (ofDDMMYY n)) ∷ [])
+  made ← get A7 (digits 6) rulesA7
   must A8 (blanks 4)
   account ← any A9 (digits 10)
   reference ← any A10 (digits 10)
   must A11a (blanks 15)
-  execution ← get A11b (maybe 8) (λ n. executionRules (ofDDMMYY made) (executionOf n))
+  execution ← get A11b (maybe 8) (rulesA11b (ofDDMMYY made))
   must A11c (blanks 24)
   must A12 (ascii "1")
   ret (record {
@@ -70,6 +79,36 @@ header = do
   })
 
 -- ---- C
+
+-- sum: that of the payments before
+abbrev pub rulesC4 : ℕ → ℕ → List Rule
+rulesC4 sum v = rule 11 (bankCodeOk v) ∷ rule 8 (ltb (sum + v) sumLimit) ∷ []
+
+abbrev pub rulesC5 : ℕ → ℕ → List Rule
+rulesC5 sum v = rule 11 (notZero v) ∷ rule 7 (ltb (sum + v) sumLimit) ∷ []
+
+abbrev pub rulesC6 : ℕ → List Rule
+rulesC6 v = rule 11 (customerOk v) ∷ []
+
+abbrev pub rulesC7a : List ℕ → ℕ → List Rule
+rulesC7a kind v = rule 12 (keyOk kind v) ∷ []
+
+abbrev pub rulesC10 : ℕ → List Rule
+rulesC10 v = rule 11 (bankCodeOk v) ∷ []
+
+abbrev pub rulesC11 : ℕ → List Rule
+rulesC11 v = rule 11 (notZero v) ∷ []
+
+abbrev pub rulesC12 : ℕ → ℕ → List Rule
+rulesC12 sum v = rule 11 (notZero v) ∷ rule 9 (leb (sum + v) mostCents) ∷ []
+
+-- C14a and C15
+abbrev pub rulesOfNames : List ℕ → List Rule
+rulesOfNames s = rule 11 (notAllBlank s) ∷ []
+
+-- where C1 tells the length l
+abbrev pub rulesC18 : ℕ → ℕ → List Rule
+rulesC18 l k = rule 11 (eqb (lengthOf k) l) ∷ []
 
 -- room: how many parts may follow at the most, 15 before the first. After 01 it is 14, after the n-th 02 it is 14 - n, after 03 none
 abbrev pub roomAfter : ℕ → ℕ → ℕ
@@ -105,24 +144,24 @@ abbrev pub payment : List ℕ → Totals → ℕ → Form Name Payment
 payment kind t l = do
   must C2 (ascii "C")
   firstBank ← any C3 (digits 8)
-  bankCode ← get C4 (digits 8) (λ v. rule 11 (bankCodeOk v) ∷ rule 8 (ltb (t .bankCodes + v) sumLimit) ∷ [])
-  account ← get C5 (digits 10) (λ v. rule 11 (notZero v) ∷ rule 7 (ltb (t .accounts + v) sumLimit) ∷ [])
-  customer ← get C6 (digits 13) (λ v. rule 11 (customerOk v) ∷ [])
-  key ← get C7a (digits 2) (λ v. rule 12 (keyOk kind v) ∷ [])
+  bankCode ← get C4 (digits 8) (rulesC4 (t .bankCodes))
+  account ← get C5 (digits 10) (rulesC5 (t .accounts))
+  customer ← get C6 (digits 13) rulesC6
+  key ← get C7a (digits 2) (rulesC7a kind)
   supplement ← any C7b (digits 3)
   must C8 (blanks 1)
   must C9 (zeros 11)
-  senderBank ← get C10 (digits 8) (λ v. rule 11 (bankCodeOk v) ∷ [])
-  senderAccount ← get C11 (digits 10) (λ v. rule 11 (notZero v) ∷ [])
-  cents ← get C12 (digits 11) (λ v. rule 11 (notZero v) ∷ rule 9 (leb (t .cents + v) mostCents) ∷ [])
+  senderBank ← get C10 (digits 8) rulesC10
+  senderAccount ← get C11 (digits 10) rulesC11
+  cents ← get C12 (digits 11) (rulesC12 (t .cents))
   must C13 (blanks 3)
-  beneficiary ← get C14a text27 (λ s. rule 11 (notAllBlank s) ∷ [])
+  beneficiary ← get C14a text27 rulesOfNames
   must C14b (blanks 8)
-  sender ← get C15 text27 (λ s. rule 11 (notAllBlank s) ∷ [])
+  sender ← get C15 text27 rulesOfNames
   purpose ← any C16 text27
   must C17a (ascii "1")
   must C17b (blanks 2)
-  k ← get C18 (digits 2) (λ k. rule 11 (eqb (lengthOf k) l) ∷ [])
+  k ← get C18 (digits 2) (rulesC18 l)
   ps ← parts k 0 15
   ret (record {
     firstBank = firstBank;

@@ -1,0 +1,132 @@
+-- Code that reads a form field by field: where it stands, what it owes, and how a field or another reader takes it on or ends it.
+use Prim.Native.Nat.{ℕ, _+_}
+use mathlib.Core.Path.{_≡_, refl, sym, ap, _∙_}
+use mathlib.Core.List.{List, []}
+use Rattle.form.specs.Kind.{Kind, Value, width}
+use Rattle.form.specs.Form.{Rule, Form, ret, field, _>>=_}
+use Rattle.form.specs.Reader.{Reason, Look, has, lacks, _then_, obey}
+use Rattle.form.specs.Place.{lookAt, fieldAt, Read, done, halt, readAt}
+use Rattle.form.proofs.PlaceLaws.{read-bind}
+use Rattle.rules.specs.Fields.{Name}
+use Rattle.fields.specs.declared.Refusal.{Refusal}
+use Rattle.fields.specs.Answers.{refusalAt, Telling, ofField, ofRead}
+
+-- answers that give and answers that refuse are told apart, and why an answer refuses is what was refused
+pub record Told {X R : Type 0} (t : Telling X R) (why : R → Refusal) : Type 0 where
+  pub apart : (v : X) (q : ℕ) (x : Refusal) → t .gives v q ≡ t .refuses x → ⊥
+  pub same : (x : Refusal) → why (t .refuses x) ≡ x
+
+-- ---- what an answer tells of a field
+
+-- it has the content v, and y is the answer that gives it with the place n behind it
+pub record Stands {X R : Type 0} (t : Telling X R) (l : Look X) (n : ℕ) (y : R) : Type 0 where
+  pub value : X
+  pub content : l ≡ has value
+  pub given : y ≡ t .gives value n
+
+-- it has none, and r is the refusal at its place p
+pub record Fails {X : Type 0} (l : Look X) (p : ℕ) (r : Refusal) : Type 0 where
+  pub reason : Reason
+  pub lack : l ≡ lacks reason
+  pub refusal : r ≡ refusalAt reason p
+
+module _ {X R : Type 0} {t : Telling X R} {why : R → Refusal} (k : Told t why) {a : R} (p n : ℕ) (l : Look X) (told : a ≡ ofField t p n l) where
+  pub stands : (y : R) → ((x : Refusal) → y ≡ t .refuses x → ⊥) → a ≡ y → Stands t l n y
+  unfolding ofField
+  stands y not given = by l (sym told ∙ given)
+    where
+      by : (l : Look X) → ofField t p n l ≡ y → Stands t l n y
+      by (has v) e = record { value = v; content = refl; given = sym e }
+      by (lacks z) e = absurd (not (refusalAt z p) (sym e))
+
+  pub fails : {x r : Refusal} → a ≡ t .refuses x → r ≡ why a → Fails l p r
+  unfolding ofField
+  fails {x} {r} given e = by l (sym told ∙ given) (e ∙ ap why given ∙ k .same x)
+    where
+      by : (l : Look X) → ofField t p n l ≡ t .refuses x → r ≡ x → Fails l p r
+      by (has v) e i = absurd (k .apart v n x e)
+      by (lacks z) e i = record { reason = z; lack = refl; refusal = i ∙ sym (k .same x) ∙ ap why (sym e) ∙ k .same (refusalAt z p) }
+
+-- ---- the walk through a form
+
+-- the code has come to place p of the file f, and owes g: what the fields of m from there on give
+pub record Walk {A R : Type 0} (t : Telling A R) (f : List ℕ) (g : R) (m : Form Name A) (p : ℕ) : Type 0 where
+  pub owed : g ≡ ofRead t (readAt m f p)
+
+-- the value of a form's first field, and the form behind that value
+abbrev pub First : {A : Type 0} → Form Name A → Type 0
+First (ret a) = Unit {0}
+First (field ν κ rs next) = Value κ
+
+abbrev pub behind : {A : Type 0} (m : Form Name A) → First m → Form Name A
+behind (ret a) v = ret a
+behind (field ν κ rs next) v = next v
+
+-- the walk goes on at place q, behind a field of the value v
+abbrev pub Next : {A R : Type 0} {t : Telling A R} {f : List ℕ} {g : R} {m : Form Name A} {p : ℕ} → Walk t f g m p → First m → ℕ → Type 0
+Next {t = t} {f = f} {g = g} {m = m} w v q = Walk t f g (behind m v) q
+
+-- a field without rules of its own
+plain : {X : Type 0} (l : Look X) → _then_ l (λ v. has v) ≡ l
+plain (has v) = refl
+plain (lacks z) = refl
+
+module _ {A R : Type 0} {t : Telling A R} {f : List ℕ} where
+  pub start : (m : Form Name A) (p : ℕ) → Walk t f (ofRead t (readAt m f p)) m p
+  start m p = record { owed = refl }
+
+  pub finish : {g : R} {a : A} {q : ℕ} → Walk t f g (ret a) q → t .gives a q ≡ g
+  unfolding readAt ofRead
+  finish w = sym (w .owed)
+
+  -- a field whose leaf has looked at its rules
+  module _ {g : R} {ν : Name} {κ : Kind} {rs : Value κ → List Rule} {next : Value κ → Form Name A} {p : ℕ} (w : Walk t f g (field ν κ rs next) p) where
+    pub past-ruled : {v : Value κ} {q : ℕ} → (fieldAt κ rs f p ≡ has v) × (q ≡ p + width κ) → Walk t f g (next v) q
+    unfolding readAt
+    past-ruled s = record { owed = w .owed ∙ rw (s.0, s.1) }
+
+    pub stopped-ruled : {r : Refusal} → Fails (fieldAt κ rs f p) p r → t .refuses r ≡ g
+    unfolding readAt ofRead
+    stopped-ruled x = rw (x .refusal) (sym (w .owed ∙ rw (x .lack)))
+
+  -- a field without rules
+  module _ {g : R} {ν : Name} {κ : Kind} {next : Value κ → Form Name A} {p : ℕ} (w : Walk t f g (field ν κ (λ v. []) next) p) where
+    pub past : {v : Value κ} {q : ℕ} → (lookAt κ f p ≡ has v) × (q ≡ p + width κ) → Walk t f g (next v) q
+    past s = past-ruled w (plain (lookAt κ f p) ∙ s.0, s.1)
+
+    pub stopped : {r : Refusal} → Fails (lookAt κ f p) p r → t .refuses r ≡ g
+    stopped x = stopped-ruled w (record { reason = x .reason; lack = plain (lookAt κ f p) ∙ x .lack; refusal = x .refusal })
+
+-- ---- a form that another reader reads
+
+-- the other has read it, and y is the answer that gives it
+pub record Reads {B S : Type 0} (u : Telling B S) (x : Read Name B) (y : S) : Type 0 where
+  pub value : B
+  pub place : ℕ
+  pub done : x ≡ done value place
+  pub given : y ≡ u .gives value place
+
+module _ {B S : Type 0} {u : Telling B S} {why : S → Refusal} (k : Told u why) {a : S} (x : Read Name B) (told : a ≡ ofRead u x) where
+  pub reads : (y : S) → ((r : Refusal) → y ≡ u .refuses r → ⊥) → a ≡ y → Reads u x y
+  unfolding ofRead
+  reads y not given = by x (sym told ∙ given)
+    where
+      by : (x : Read Name B) → ofRead u x ≡ y → Reads u x y
+      by (done b q) e = record { value = b; place = q; done = refl; given = sym e }
+      by (halt r) e = absurd (not (refusalAt (r .reason) (r .place)) (sym e))
+
+module _ {A R : Type 0} {t : Telling A R} {f : List ℕ} {B : Type 0} {g : R} (m : Form Name B) (k : B → Form Name A) {p : ℕ} (w : Walk t f g (m >>= k) p) where
+  pub past-part : {b : B} {q : ℕ} → readAt m f p ≡ done b q → Walk t f g (k b) q
+  past-part e = record { owed = w .owed ∙ rw (read-bind m k f p, e) }
+
+  -- its refusal is handed on
+  pub stopped-part : {S : Type 0} {u : Telling B S} {why : S → Refusal} → Told u why → {a : S} {x r : Refusal} → a ≡ ofRead u (readAt m f p)
+      → a ≡ u .refuses x → r ≡ why a → t .refuses r ≡ g
+  unfolding ofRead
+  stopped-part {u = u} {why = why} o {a} {x} {r} told given e = by (readAt m f p) refl
+    where
+      by : (y : Read Name B) → readAt m f p ≡ y → t .refuses r ≡ g
+      by (done b q) i = absurd (o .apart b q x (ap (ofRead u) (sym i) ∙ sym told ∙ given))
+      by (halt z) i =
+          let here : a ≡ u .refuses (refusalAt (z .reason) (z .place)) = told ∙ ap (ofRead u) i in
+          rw (e ∙ ap why here ∙ o .same (refusalAt (z .reason) (z .place))) (sym (w .owed ∙ rw (read-bind m k f p, i)))

@@ -1,0 +1,377 @@
+// One field at a place of the file: a function for each kind of field. Each is total, and answers what the reader of the form sees there.
+ghost use mathlib.Core.Path.{_≡_};
+ghost use Prim.Native.Nat.{_+_, _≤_, min};
+ghost use lib.ListN.{length, replicate};
+ghost use lib.Dec.{leb, eqb};
+ghost use Rattle.form.specs.Kind.{fixed, digits, maybe, choice, every, same, blanks};
+ghost use Rattle.form.specs.Place.{lookAt, fieldAt};
+ghost use Rattle.rules.specs.Signs.{zeros, sign};
+ghost use Rattle.rules.specs.Rules.{fileKinds};
+ghost use Rattle.rules.specs.Fields.{text27, rulesOfNames};
+ghost use Rattle.fields.specs.Answers.{refusalOf, ofField, passings, passedWhy, numbers, numberWhy, maybeNumbers, kinds, kindWhy};
+ghost use Rattle.fields.specs.Stretches.{widest, digitsOf, signsOf};
+
+// The numbers that a refusal gives back.
+pub const SHORT: u8 = 1;
+
+pub const NOT_FIXED: u8 = 2;
+
+pub const NO_DIGIT: u8 = 3;
+
+pub const NO_SIGN: u8 = 4;
+
+pub const NO_LENGTH: u8 = 5;
+
+pub const NO_MORE_PAYMENTS: u8 = 6;
+
+pub const ACCOUNTS_OVER: u8 = 7;
+
+pub const BANK_CODES_OVER: u8 = 8;
+
+pub const CENTS_OVER: u8 = 9;
+
+pub const NO_DATE: u8 = 10;
+
+pub const CONDITION: u8 = 11;
+
+pub const NO_KEY: u8 = 12;
+
+pub const NO_MARK: u8 = 13;
+
+pub const NOT_COUNTED: u8 = 14;
+
+pub const SURPLUS: u8 = 15;
+
+// The fixed bytes of A, C and E.
+pub const LENGTH_128: [u8; 4] = *b"0128";
+
+pub const LETTER_A: [u8; 1] = *b"A";
+
+pub const LETTER_C: [u8; 1] = *b"C";
+
+pub const LETTER_E: [u8; 1] = *b"E";
+
+pub const EURO: [u8; 1] = *b"1";
+
+// Why a file is refused: the number, and the first byte of the field.
+pub struct Refusal {
+    pub number: u8,
+    pub place: usize,
+}
+
+pub const NO_REFUSAL: Refusal = Refusal {
+    number: 0,
+    place: 0,
+};
+
+// A field, or fields, of which no value is kept: the place behind them.
+pub enum Passed {
+    To(usize),
+    Refused(Refusal),
+}
+
+// A number, and the place behind it.
+pub enum Number {
+    Is(u64, usize),
+    Refused(Refusal),
+}
+
+// Blanks or a number, and the place behind them.
+pub enum MaybeNumber {
+    Blank(usize),
+    Is(u64, usize),
+    Refused(Refusal),
+}
+
+// What A3 tells: credits or debits, of a customer or of a bank.
+pub struct FileKind {
+    pub credit: bool,
+    pub customer: bool,
+}
+
+pub enum KindRead {
+    Is(FileKind, usize),
+    Refused(Refusal),
+}
+
+pub fn refuse(number: u8, place: usize) -> Refusal
+    ensures { λ r. ⌜ r ≡ refusalOf number place ⌝ }
+{
+    Refusal {
+        number: number,
+        place: place,
+    }
+}
+
+impl Passed {
+    pub fn why(self) -> Refusal
+        ensures { λ r. ⌜ r ≡ passedWhy self ⌝ }
+    {
+        match self {
+            Passed::To(_) => NO_REFUSAL,
+            Passed::Refused(r) => r,
+        }
+    }
+}
+
+impl Number {
+    pub fn why(self) -> Refusal
+        ensures { λ r. ⌜ r ≡ numberWhy self ⌝ }
+    {
+        match self {
+            Number::Is(_, _) => NO_REFUSAL,
+            Number::Refused(r) => r,
+        }
+    }
+}
+
+impl KindRead {
+    pub fn why(self) -> Refusal
+        ensures { λ r. ⌜ r ≡ kindWhy self ⌝ }
+    {
+        match self {
+            KindRead::Is(_, _) => NO_REFUSAL,
+            KindRead::Refused(r) => r,
+        }
+    }
+}
+
+// Whether a field of w bytes at p ends within len bytes.
+fn whole(len: usize, p: usize, w: usize) -> bool
+    ensures { λ r. ⌜ r ≡ leb (p + w) len ⌝ }
+{
+    if len < w {
+        return false;
+    }
+    p <= len - w
+}
+
+// Whether f and want are the same bytes.
+fn same_bytes(f: &[u8], want: &[u8]) -> bool
+    requires { ⌜ length (now f) ≡ length (now want) ⌝ }
+    ensures { λ r. ⌜ r ≡ same (now (want .entry)) (now (f .entry)) ⌝ }
+{
+    let mut all = true;
+    let mut i = 0;
+    while i < f.len() {
+        all = all & (want[i] == f[i]);
+        i += 1;
+    }
+    all
+}
+
+// Whether every byte of f is b.
+fn all_are(f: &[u8], b: u8) -> bool
+    ensures { λ r. ⌜ r ≡ every (λ x. eqb x b) (now (f .entry)) ⌝ }
+{
+    let mut all = true;
+    let mut i = 0;
+    while i < f.len() {
+        all = all & (f[i] == b);
+        i += 1;
+    }
+    all
+}
+
+// The number that digits spell, at most 17 of them.
+enum Digits {
+    Are(u64),
+    Not,
+}
+
+fn digits_of(f: &[u8]) -> Digits
+    requires { ⌜ length (now f) ≤ widest ⌝ }
+    ensures { λ r. ⌜ r ≡ digitsOf (now (f .entry)) ⌝ }
+{
+    let mut v: u64 = 0;
+    let mut i = 0;
+    while i < f.len() {
+        let d = std::num::wrapping_sub_u8(f[i], b'0');
+        if d > 9 {
+            return Digits::Not;
+        }
+        v = v * 10 + d as u64;
+        i += 1;
+    }
+    Digits::Are(v)
+}
+
+fn is_sign(b: u8) -> bool
+    ensures { λ r. ⌜ r ≡ sign b ⌝ }
+{
+    (b == b' ')
+        | ((b >= b'$') & (b <= b'&'))
+        | ((b >= b'*') & (b <= b'9'))
+        | ((b >= b'A') & (b <= b']'))
+        | (b == b'~')
+}
+
+// Whether all bytes of a text are permitted signs, and whether all are blanks.
+struct Signs {
+    permitted: bool,
+    blank: bool,
+}
+
+fn signs_of(f: &[u8]) -> Signs
+    ensures { λ r. ⌜ r ≡ signsOf (now (f .entry)) ⌝ }
+{
+    let mut permitted = true;
+    let mut blank = true;
+    let mut i = 0;
+    while i < f.len() {
+        let b = f[i];
+        permitted = permitted & is_sign(b);
+        blank = blank & (b == b' ');
+        i += 1;
+    }
+    Signs {
+        permitted: permitted,
+        blank: blank,
+    }
+}
+
+// The fixed bytes want at p.
+pub fn fixed_at(s: &[u8], p: usize, want: &[u8]) -> Passed
+    ensures { λ r. ⌜ r ≡ ofField passings p (p + length (now (want .entry))) (lookAt (fixed (now (want .entry))) (now (s .entry)) p) ⌝ }
+{
+    let w = want.len();
+    if !whole(s.len(), p, w) {
+        return Passed::Refused(refuse(SHORT, p));
+    }
+    let q = p + w;
+    if !same_bytes(&s[p..q], want) {
+        return Passed::Refused(refuse(NOT_FIXED, p));
+    }
+    Passed::To(q)
+}
+
+// w bytes b at p.
+fn fill_at(s: &[u8], p: usize, w: usize, b: u8) -> Passed
+    ensures { λ r. ⌜ r ≡ ofField passings p (p + w) (lookAt (fixed (replicate w b)) (now (s .entry)) p) ⌝ }
+{
+    if !whole(s.len(), p, w) {
+        return Passed::Refused(refuse(SHORT, p));
+    }
+    let q = p + w;
+    if !all_are(&s[p..q], b) {
+        return Passed::Refused(refuse(NOT_FIXED, p));
+    }
+    Passed::To(q)
+}
+
+// w blanks at p.
+pub fn blanks_at(s: &[u8], p: usize, w: usize) -> Passed
+    ensures { λ r. ⌜ r ≡ ofField passings p (p + w) (lookAt (fixed (blanks w)) (now (s .entry)) p) ⌝ }
+{
+    fill_at(s, p, w, b' ')
+}
+
+// w zeros at p.
+pub fn zeros_at(s: &[u8], p: usize, w: usize) -> Passed
+    ensures { λ r. ⌜ r ≡ ofField passings p (p + w) (lookAt (fixed (zeros w)) (now (s .entry)) p) ⌝ }
+{
+    fill_at(s, p, w, b'0')
+}
+
+// No number of the form has more than 17 digits.
+fn narrow(w: usize) -> usize
+    ensures { λ r. ⌜ r ≡ min w widest ⌝ }
+{
+    if w < 17 {
+        return w;
+    }
+    17
+}
+
+// A number of w digits at p; 17 where w is more.
+pub fn number_at(s: &[u8], p: usize, w: usize) -> Number
+    ensures { λ r. ⌜ r ≡ ofField numbers p (p + min w widest) (lookAt (digits (min w widest)) (now (s .entry)) p) ⌝ }
+{
+    let n = narrow(w);
+    if !whole(s.len(), p, n) {
+        return Number::Refused(refuse(SHORT, p));
+    }
+    let q = p + n;
+    let f = digits_of(&s[p..q]);
+    let Digits::Are(v) = f else {
+        return Number::Refused(refuse(NO_DIGIT, p));
+    };
+    Number::Is(v, q)
+}
+
+// w blanks at p, or a number of w digits; 17 where w is more.
+pub fn maybe_number_at(s: &[u8], p: usize, w: usize) -> MaybeNumber
+    ensures { λ r. ⌜ r ≡ ofField maybeNumbers p (p + min w widest) (lookAt (maybe (min w widest)) (now (s .entry)) p) ⌝ }
+{
+    let n = narrow(w);
+    if !whole(s.len(), p, n) {
+        return MaybeNumber::Refused(refuse(SHORT, p));
+    }
+    let q = p + n;
+    if all_are(&s[p..q], b' ') {
+        return MaybeNumber::Blank(q);
+    }
+    let f = digits_of(&s[p..q]);
+    let Digits::Are(v) = f else {
+        return MaybeNumber::Refused(refuse(NO_DIGIT, p));
+    };
+    MaybeNumber::Is(v, q)
+}
+
+// A text of 27 signs at p.
+pub fn text_at(s: &[u8], p: usize) -> Passed
+    ensures { λ r. ⌜ r ≡ ofField passings p (p + 27) (lookAt text27 (now (s .entry)) p) ⌝ }
+{
+    if !whole(s.len(), p, 27) {
+        return Passed::Refused(refuse(SHORT, p));
+    }
+    let q = p + 27;
+    let f = signs_of(&s[p..q]);
+    if !f.permitted {
+        return Passed::Refused(refuse(NO_SIGN, p));
+    }
+    Passed::To(q)
+}
+
+// A text of 27 signs at p, not all of them blanks.
+pub fn name_at(s: &[u8], p: usize) -> Passed
+    ensures { λ r. ⌜ r ≡ ofField passings p (p + 27) (fieldAt text27 rulesOfNames (now (s .entry)) p) ⌝ }
+{
+    if !whole(s.len(), p, 27) {
+        return Passed::Refused(refuse(SHORT, p));
+    }
+    let q = p + 27;
+    let f = signs_of(&s[p..q]);
+    if !f.permitted {
+        return Passed::Refused(refuse(NO_SIGN, p));
+    }
+    if f.blank {
+        return Passed::Refused(refuse(CONDITION, p));
+    }
+    Passed::To(q)
+}
+
+// The kind of file, A3, at p.
+pub fn kind_at(s: &[u8], p: usize) -> KindRead
+    ensures { λ r. ⌜ r ≡ ofField kinds p (p + 2) (lookAt (choice 2 fileKinds) (now (s .entry)) p) ⌝ }
+{
+    if !whole(s.len(), p, 2) {
+        return KindRead::Refused(refuse(SHORT, p));
+    }
+    let next = p + 1;
+    let first = s[p];
+    let second = s[next];
+    let credit = first == b'G';
+    let customer = second == b'K';
+    let named = (credit | (first == b'L')) & (customer | (second == b'B'));
+    if !named {
+        return KindRead::Refused(refuse(NOT_FIXED, p));
+    }
+    KindRead::Is(
+        FileKind {
+            credit: credit,
+            customer: customer,
+        },
+        p + 2,
+    )
+}
