@@ -1,19 +1,26 @@
 -- What each leaf's answers tell: a number with the place behind it, a place alone, a kind of file.
-use Prim.Native.Nat.{ℕ}
+use Prim.Native.Nat.{ℕ, _+_}
 use native.Mathlib.Omega.{arith}
 use mathlib.Core.Path.{_≡_, refl, sym, ap, _∙_}
-use mathlib.Core.List.{List}
-use Rattle.form.specs.Reader.{Look, has}
+use mathlib.Core.List.{List, []}
+use mathlib.Core.Option.{Option, none, some}
+use Rattle.form.specs.Kind.{Kind, Value, width}
+use Rattle.form.specs.Form.{Rule, Form, ret, field}
+use Rattle.form.specs.Reader.{Look, has, lacks}
+use Rattle.form.specs.Place.{lookAt, fieldAt, readAt}
+use Rattle.rules.specs.Fields.{Name}
 use Rattle.fields.specs.declared.Refusal.{Refusal}
 use Rattle.fields.specs.declared.Passed.{Passed}
 use Rattle.fields.specs.declared.Passed.the-variants as passed
 use Rattle.fields.specs.declared.Number.{Number}
 use Rattle.fields.specs.declared.Number.the-variants as number
+use Rattle.fields.specs.declared.MaybeNumber.{MaybeNumber}
+use Rattle.fields.specs.declared.MaybeNumber.the-variants as maybe
 use Rattle.fields.specs.declared.FileKind.{FileKind}
 use Rattle.fields.specs.declared.KindRead.{KindRead}
 use Rattle.fields.specs.declared.KindRead.the-variants as kind
-use Rattle.fields.specs.Answers.{ofField, passings, passedWhy, numbers, numberWhy, kindOf, kinds, kindWhy}
-use Rattle.fields.proofs.WalkLaws.{Told, Stands, stands}
+use Rattle.fields.specs.Answers.{Telling, ofField, ofRead, passings, passedWhy, numbers, numberWhy, maybeNumbers, kindOf, kinds, kindWhy}
+use Rattle.fields.proofs.WalkLaws.{Told, Fails, stands, Walk, On, past, past-ruled, stop, stop-ruled}
 
 pub zero-one : _≡_ {A = ℕ} 0 1 → ⊥
 zero-one e = omega arith
@@ -46,3 +53,49 @@ module _ {a : KindRead} (p n : ℕ) (l : Look (List ℕ)) (told : a ≡ ofField 
       let s = stands kinds-told p n l told (kind.Is k q) (λ x e. zero-one cc) given in
       let e = s .given in
       (s .value, s .content, cc, cc)
+
+-- blanks or a number
+module _ {a : MaybeNumber} (p n : ℕ) (l : Look (Option ℕ)) (told : a ≡ ofField maybeNumbers p n l) where
+  pub blank-is : {q : ℕ} → a ≡ maybe.Blank q → (l ≡ has none) × (q ≡ n)
+  unfolding ofField
+  blank-is {q} given = by l (sym told ∙ given)
+    where
+      by : (l : Look (Option ℕ)) → ofField maybeNumbers p n l ≡ maybe.Blank q → (l ≡ has none) × (q ≡ n)
+      by (has none) e = (refl, cc)
+      by (has (some v)) e = absurd (zero-one cc)
+      by (lacks z) e = absurd (zero-one cc)
+
+  pub some-is : {v q : ℕ} → a ≡ maybe.Is v q → (l ≡ has (some v)) × (q ≡ n)
+  unfolding ofField
+  some-is {v} {q} given = by l (sym told ∙ given)
+    where
+      by : (l : Look (Option ℕ)) → ofField maybeNumbers p n l ≡ maybe.Is v q → (l ≡ has (some v)) × (q ≡ n)
+      by (has none) e = absurd (zero-one cc)
+      by (has (some u)) e = (cc, cc)
+      by (lacks z) e = absurd (zero-one cc)
+
+  pub maybe-fails : {x : Refusal} → a ≡ maybe.Refused x → Fails l p x
+  unfolding ofField
+  maybe-fails {x} given = by l (sym told ∙ given)
+    where
+      by : (l : Look (Option ℕ)) → ofField maybeNumbers p n l ≡ maybe.Refused x → Fails l p x
+      by (has none) e = absurd (zero-one cc)
+      by (has (some v)) e = absurd (zero-one cc)
+      by (lacks z) e = record { reason = z; lack = refl; refusal = cc }
+
+-- ---- on the walk: a field of which no value is kept
+
+module _ {A R : Type 0} {t : Telling A R} {f : List ℕ} {g : R} {ν : Name} {κ : Kind} {next : Value κ → Form Name A} {p : ℕ} where
+  module _ (w : Walk t f g (field ν κ (λ v. []) next) p) {a : Passed} where
+    pub pass : {q : ℕ} → a ≡ ofField passings p (p + width κ) (lookAt κ f p) → a ≡ passed.To q → On w q
+    pass told given = let s = passed-to _ _ _ told given in (s.0, past w (s.1, s.2))
+
+    pub pass-stop : (n : ℕ) {x : Refusal} → a ≡ ofField passings p n (lookAt κ f p) → a ≡ passed.Refused x → t .refuses x ≡ g
+    pass-stop n told given = stop passings-told n w told given (sym (ap passedWhy given))
+
+  module _ {rs : Value κ → List Rule} (w : Walk t f g (field ν κ rs next) p) {a : Passed} where
+    pub pass-ruled : {q : ℕ} → a ≡ ofField passings p (p + width κ) (fieldAt κ rs f p) → a ≡ passed.To q → On w q
+    pass-ruled told given = let s = passed-to _ _ _ told given in (s.0, past-ruled w (s.1, s.2))
+
+    pub pass-ruled-stop : (n : ℕ) {x : Refusal} → a ≡ ofField passings p n (fieldAt κ rs f p) → a ≡ passed.Refused x → t .refuses x ≡ g
+    pass-ruled-stop n told given = stop-ruled passings-told n w told given (sym (ap passedWhy given))

@@ -1,16 +1,16 @@
 -- A field at a place: whole or not, then what its bytes tell; and the leaf that looks at the rules too.
 use Prim.Native.Nat.{ℕ, _+_, _≤_}
 use native.Mathlib.Omega.{arith}
-use mathlib.Core.Path.{_≡_, refl, sym, ap, _∙_}
-use mathlib.Core.Bool.{Bool, true, false}
+use mathlib.Core.Path.{_≡_, refl, sym}
+use mathlib.Core.Bool.{Bool, true, false, cond}
 use mathlib.Core.List.{List, [], _∷_}
 use lib.ListN.{length, take, drop, length-drop, replicate}
 use lib.Seq.{length-take-le}
 use lib.Dec.{leb, eqb}
 use borrow.Author.Tests.{leb-true, leb-false, eq-eqb, ne-eqb, eqb-true, eqb-false}
 use Rattle.form.specs.Kind.{Kind, fixed, maybe, Value, width, every, same}
-use Rattle.form.specs.Form.{Rule}
-use Rattle.form.specs.Reader.{Reason, short, not-fixed, not-sign, breaks, Look, has, lacks, ifSo, optional, judge, obey}
+use Rattle.form.specs.Form.{Rule, rule}
+use Rattle.form.specs.Reader.{Reason, short, not-fixed, not-sign, breaks, has, lacks, ifSo, optional, judge, obey}
 use Rattle.form.specs.Place.{lookAt, fieldAt}
 use Rattle.rules.specs.Signs.{sign}
 use Rattle.rules.specs.Fields.{text27}
@@ -102,8 +102,15 @@ module _ {R : Type 0} (κ : Kind) (t : Telling (Value κ) R) (rs : Value κ → 
 
   pub field-broken : {v : Value κ} {n : ℕ} → lookAt κ f p ≡ has v → obey (rs v) v ≡ lacks (breaks n) → t .refuses (refusalOf n p) ≡ ofField t p q (fieldAt κ rs f p)
   unfolding ofField numberOf
-  field-broken content rule = rw (content, rule)
+  field-broken content broken = rw (content, broken)
 
   pub field-holds : {v : Value κ} → lookAt κ f p ≡ has v → obey (rs v) v ≡ has v → t .gives v q ≡ ofField t p q (fieldAt κ rs f p)
   unfolding ofField
-  field-holds content rule = rw (content, rule)
+  field-holds content kept = rw (content, kept)
+
+  -- the last rule decides, after those before it were kept
+  pub field-decides : (v : Value κ) (n : ℕ) (b : Bool) → lookAt κ f p ≡ has v → obey (rs v) v ≡ obey (rule n b ∷ []) v
+      → cond b (t .gives v q) (t .refuses (refusalOf n p)) ≡ ofField t p q (fieldAt κ rs f p)
+  unfolding ofField numberOf
+  field-decides v n true content e = rw (content, e)
+  field-decides v n false content e = rw (content, e)

@@ -4,7 +4,7 @@ use mathlib.Core.Path.{_≡_, refl, sym, ap, _∙_}
 use mathlib.Core.List.{List, []}
 use Rattle.form.specs.Kind.{Kind, Value, width}
 use Rattle.form.specs.Form.{Rule, Form, ret, field, _>>=_}
-use Rattle.form.specs.Reader.{Reason, Look, has, lacks, _then_, obey}
+use Rattle.form.specs.Reader.{Reason, Look, has, lacks, _then_}
 use Rattle.form.specs.Place.{lookAt, fieldAt, Read, done, halt, readAt}
 use Rattle.form.proofs.PlaceLaws.{read-bind}
 use Rattle.rules.specs.Fields.{Name}
@@ -96,6 +96,35 @@ module _ {A R : Type 0} {t : Telling A R} {f : List ℕ} where
 
     pub stopped : {r : Refusal} → Fails (lookAt κ f p) p r → t .refuses r ≡ g
     stopped x = stopped-ruled w (record { reason = x .reason; lack = plain (lookAt κ f p) ∙ x .lack; refusal = x .refusal })
+
+-- ---- the answer of a leaf, on the walk
+
+-- the walk goes on at place q, behind a field of some value
+abbrev pub On : {A R : Type 0} {t : Telling A R} {f : List ℕ} {g : R} {m : Form Name A} {p : ℕ} → Walk t f g m p → ℕ → Type 0
+On {m = m} w q = (v : First m) × Next w v q
+
+module _ {A R : Type 0} {t : Telling A R} {f : List ℕ} {g : R} {ν : Name} {κ : Kind} {next : Value κ → Form Name A} {p : ℕ} where
+  module _ {S : Type 0} {u : Telling (Value κ) S} {why : S → Refusal} (k : Told u why) {a : S} (n : ℕ) {x : Refusal} where
+    -- the leaf's refusal is handed on
+    pub stop : (w : Walk t f g (field ν κ (λ v. []) next) p) → a ≡ ofField u p n (lookAt κ f p) → a ≡ u .refuses x → {r : Refusal} → r ≡ why a → t .refuses r ≡ g
+    stop w told given e = stopped w (fails k p n (lookAt κ f p) told given e)
+
+    pub stop-ruled : {rs : Value κ → List Rule} (w : Walk t f g (field ν κ rs next) p) → a ≡ ofField u p n (fieldAt κ rs f p) → a ≡ u .refuses x → {r : Refusal} → r ≡ why a → t .refuses r ≡ g
+    stop-ruled {rs} w told given e = stopped-ruled w (fails k p n (fieldAt κ rs f p) told given e)
+
+-- the last field: the leaf's answer is the reader's
+module _ {A R : Type 0} {t : Telling A R} {f : List ℕ} {g : R} {ν : Name} {κ : Kind} {h : Value κ → A} {p : ℕ} (u : Telling (Value κ) R)
+    (gives : (v : Value κ) (q : ℕ) → u .gives v q ≡ t .gives (h v) q) (refuses : (x : Refusal) → u .refuses x ≡ t .refuses x) where
+  pub last-ruled : {rs : Value κ → List Rule} → Walk t f g (field ν κ rs (λ v. ret (h v))) p → ofField u p (p + width κ) (fieldAt κ rs f p) ≡ g
+  unfolding ofField ofRead readAt
+  last-ruled {rs} w = by (fieldAt κ rs f p) refl
+    where
+      by : (l : Look (Value κ)) → fieldAt κ rs f p ≡ l → ofField u p (p + width κ) l ≡ g
+      by (has v) e = gives v (p + width κ) ∙ sym (w .owed ∙ rw e)
+      by (lacks z) e = refuses (refusalAt z p) ∙ sym (w .owed ∙ rw e)
+
+  pub last : Walk t f g (field ν κ (λ v. []) (λ v. ret (h v))) p → ofField u p (p + width κ) (lookAt κ f p) ≡ g
+  last w = ap (ofField u p (p + width κ)) (sym (plain (lookAt κ f p))) ∙ last-ruled w
 
 -- ---- a form that another reader reads
 

@@ -1,10 +1,9 @@
 -- What the code answers, given what the reader of the form sees: a content and the place behind it, or the refusal.
 use Prim.Native.Nat.{ℕ}
-use mathlib.Core.Bool.{Bool, cond}
+use mathlib.Core.Bool.{cond}
 use mathlib.Core.List.{List, _++_}
 use mathlib.Core.Option.{Option, none, some}
 use Rattle.form.specs.Reader.{Reason, Look, has, lacks}
-use Rattle.form.specs.Reader as reader
 use Rattle.form.specs.Place.{Read, done, halt}
 use Rattle.rules.specs.Signs.{ascii}
 use Rattle.rules.specs.Rules.{beginsWithG, endsInK}

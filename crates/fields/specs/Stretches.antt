@@ -1,6 +1,6 @@
 -- What the bytes of a whole field tell.
 use Prim.Native.Nat.{ℕ}
-use mathlib.Core.Bool.{Bool, cond}
+use mathlib.Core.Bool.{cond}
 use mathlib.Core.List.{List}
 use lib.Dec.{eqb}
 use Rattle.form.specs.Kind.{every, digit}

@@ -1,6 +1,6 @@
 -- What adding to a total answers: the new total, or the refusal where it has too many digits.
 use Prim.Native.Nat.{ℕ, _+_}
-use mathlib.Core.Bool.{Bool, cond}
+use mathlib.Core.Bool.{cond}
 use lib.Dec.{ltb, leb}
 use Rattle.rules.specs.Rules.{mostCents, sumLimit}
 use Rattle.rules.specs.Values.{Totals}

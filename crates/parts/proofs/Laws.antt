@@ -1,0 +1,112 @@
+-- A part read as a file of its own, the blanks that close a section, and the tree of the parts opened one part at a time.
+use Prim.Native.Nat.{ℕ, zero, suc, _+_, _-_, _≤_, _<_}
+use native.Mathlib.Nat.{add-zero}
+use native.Mathlib.Omega.{arith}
+use mathlib.Core.Path.{_≡_, refl, sym, ap, _∙_}
+use mathlib.Core.List.{List, [], _∷_}
+use lib.ListN.{length, take, drop, length-take, length-drop, length-replicate}
+use lib.Seq.{drop-drop, take-take}
+use Rattle.form.specs.Kind.{Kind, fixed, digits, width, blanks}
+use Rattle.form.specs.Form.{Rule, Form, ret, get, any, _>>=_, _>>_}
+use Rattle.form.specs.Reader.{Look}
+use Rattle.form.specs.Place.{lookAt, fieldAt, Read, done, halt, readAt, andThen}
+use Rattle.form.proofs.PlaceLaws.{read-bind}
+use Rattle.rules.specs.Values.{Part}
+use Rattle.rules.specs.Writing.{section, toSectionEnd, toNextPart}
+use Rattle.rules.specs.Fields.{Name, mark, words, text27, roomAfter, markRules, closingBlanks, parts}
+use Rattle.fields.specs.declared.Refusal.{Refusal}
+use Rattle.fields.specs.declared.Passed.{Passed}
+use Rattle.fields.specs.declared.Passed.the-variants as passed
+use Rattle.fields.specs.Answers.{refusalOf, ofField, ofRead, passings, passedWhy}
+use Rattle.fields.proofs.WalkLaws.{Fails, Walk, start, last, reads, past-part, stopped-part}
+use Rattle.fields.proofs.AnswerLaws.{zero-one, passings-told}
+use Rattle.fields.proofs.LeafLaws.{leb-leb}
+
+-- ---- a part as a file of its own
+
+take-part : (w q n : ℕ) (l : List ℕ) → q + w ≤ n → take w (drop q (take n l)) ≡ take w (drop q l)
+take-part w zero n l h = take-take w n l (omega arith)
+take-part w (suc q) zero l h = absurd (omega arith)
+take-part w (suc q) (suc n) [] h = refl
+take-part w (suc q) (suc n) (x ∷ xs) h = take-part w q n xs (omega arith)
+
+-- a field inside a part of 29 bytes, or of those that the file still has
+pub part-look : (κ : Kind) (f : List ℕ) (p q : ℕ) → q + width κ ≤ 29 → 1 ≤ q + width κ → lookAt κ (take 29 (drop p f)) q ≡ lookAt κ f (p + q)
+unfolding lookAt
+part-look κ f p q h j =
+    let part = length-take 29 (drop p f) in
+    let rest = length-drop p f in
+    rw (
+      leb-leb (q + width κ) (length (take 29 (drop p f))) (p + q + width κ) (length f) (λ i. omega arith) (λ i. omega arith),
+      take-part (width κ) q 29 (drop p f) h,
+      drop-drop q p f,
+    )
+
+module _ (f part : List ℕ) (p : ℕ) (cut : part ≡ take 29 (drop p f)) where
+  pub mark-there : (rs : ℕ → List Rule) → fieldAt (digits 2) rs part 0 ≡ fieldAt (digits 2) rs f p
+  mark-there rs = rw (cut, part-look (digits 2) f p 0 (omega arith) (omega arith), add-zero p)
+
+  pub words-there : lookAt text27 part 2 ≡ lookAt text27 f (p + 2)
+  words-there = rw (cut, part-look text27 f p 2 (omega arith) (omega arith))
+
+-- a refusal inside a part is given its place in the file
+pub fails-there : {X : Type 0} {l k : Look X} {p : ℕ} {r : Refusal} → l ≡ k → (q : ℕ) → Fails l p r → Fails k q (refusalOf (r .number) q)
+fails-there same q x = record { reason = x .reason; lack = sym same ∙ x .lack; refusal = rw (x .refusal) }
+
+-- ---- what is not kept
+
+-- the value of a form makes no difference to an answer that keeps none
+pub not-kept : {A B : Type 0} {f : List ℕ} {g : Passed} (m : Form Name A) (h : A → B) {p : ℕ} → Walk passings f g (m >>= λ a. ret (h a)) p → Walk passings f g m p
+unfolding readAt ofRead
+not-kept {A} {B} {f} m h {p} w = record { owed = w .owed ∙ ap (ofRead passings) (read-bind m (λ a. ret (h a)) f p) ∙ by (readAt m f p) }
+  where
+    by : (x : Read Name A) → ofRead (passings {X = B}) (andThen x (λ a q. done (h a) q)) ≡ ofRead passings x
+    by (done a q) = refl
+    by (halt r) = refl
+
+-- a form that was passed, and the place behind it
+pub passed-form : {B : Type 0} {a : Passed} (x : Read Name B) → a ≡ ofRead passings x → {q : ℕ} → a ≡ passed.To q → (b : B) × (x ≡ done b q)
+passed-form x told {q} given =
+    let s = reads passings-told x told (passed.To q) (λ r e. zero-one cc) given in
+    let e = s .given in
+    let i : s .place ≡ q = cc in
+    (s .value, s .done ∙ ap (done (s .value)) i)
+
+-- ---- the blanks that close a section
+
+module _ (n : ℕ) (f : List ℕ) (p : ℕ) where
+  pub closing-none : (w : ℕ) → w ≡ 0 → passed.To p ≡ ofRead passings (readAt (closingBlanks n w) f p)
+  unfolding readAt ofRead
+  closing-none w e = rw e
+
+  pub closing-some : (w : ℕ) → (w ≡ 0 → ⊥) → ofField passings p (p + w) (lookAt (fixed (blanks w)) f p) ≡ ofRead passings (readAt (closingBlanks n w) f p)
+  closing-some zero e = absurd (e refl)
+  closing-some (suc w) e = rw (length-replicate {A = ℕ} (suc w) 32) at (last {t = passings} {f = f} passings (λ v q. refl) (λ x. refl) (start (closingBlanks n (suc w)) p))
+
+-- ---- the parts, one opened
+
+abbrev pub onePart : ℕ → ℕ → ℕ → Form Name (List Part)
+onePart left i room = do
+  m ← get (mark (suc i)) (digits 2) (markRules room left)
+  t ← any (words (suc i)) text27
+  ps ← parts left (suc i) (roomAfter m room)
+  ret (record { mark = m; words = t } ∷ ps)
+
+-- left parts are to come behind part i, and a is the answer to the blanks that close its section
+module _ {f : List ℕ} {g : Passed} {p : ℕ} (left i room : ℕ) (w : Walk passings f g (parts left i room) p) where
+  pub parts-over : {a : Passed} → left ≡ 0 → a ≡ ofRead passings (readAt (closingBlanks (section i) (toSectionEnd i)) f p) → a ≡ g
+  unfolding parts
+  parts-over e told = told ∙ sym (not-kept (closingBlanks (section i) (toSectionEnd i)) (λ u. []) (rw e at w) .owed)
+
+  more-parts : 0 < left → Walk passings f g (closingBlanks (section i) (toNextPart i) >> onePart (left - 1) i room) p
+  unfolding parts
+  more-parts h = let e : left ≡ suc (left - 1) = omega arith in rw e at w
+
+  module _ {a : Passed} (more : 0 < left) (told : a ≡ ofRead passings (readAt (closingBlanks (section i) (toNextPart i)) f p)) where
+    pub part-next : {q : ℕ} → a ≡ passed.To q → Walk passings f g (onePart (left - 1) i room) q
+    part-next given =
+        past-part (closingBlanks (section i) (toNextPart i)) (λ u. onePart (left - 1) i room) (more-parts more) (passed-form _ told given .1)
+
+    pub part-barred : {x r : Refusal} → a ≡ passed.Refused x → r ≡ passedWhy a → passed.Refused r ≡ g
+    part-barred given e =
+        stopped-part (closingBlanks (section i) (toNextPart i)) (λ u. onePart (left - 1) i room) (more-parts more) passings-told told given e

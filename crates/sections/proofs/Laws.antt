@@ -1,0 +1,66 @@
+-- What the answers of the stretches tell, and the keys of a kind of file as the code tries them.
+use Prim.Native.Nat.{ℕ, _+_}
+use mathlib.Core.Path.{_≡_, refl, ap, _∙_}
+use mathlib.Core.Bool.{Bool, true, false, _||_}
+use Rattle.form.specs.Place.{Read, done}
+use Rattle.rules.specs.Fields.{Name}
+use Rattle.fields.specs.Answers.{ofRead}
+use Rattle.fields.proofs.WalkLaws.{Told, reads}
+use Rattle.fields.proofs.AnswerLaws.{zero-one}
+use Rattle.fields.specs.declared.Number.{Number}
+use Rattle.fields.specs.declared.Number.the-variants as number
+use Rattle.fields.specs.Answers.{numberWhy}
+use Rattle.sums.specs.declared.AccountSum.{AccountSum}
+use Rattle.sums.specs.declared.BankCodeSum.{BankCodeSum}
+use Rattle.sums.specs.declared.CentSum.{CentSum}
+use Rattle.sums.specs.declared.CentsRead.{CentsRead}
+use Rattle.sums.specs.declared.CentsRead.the-variants as cents
+use Rattle.sums.specs.Sums.{centsWhy}
+use Rattle.sections.specs.declared.ReceiverRead.{ReceiverRead}
+use Rattle.sections.specs.declared.ReceiverRead.the-variants as receivers
+use Rattle.sections.specs.Sections.{Receiver, receiversOn, receiverWhy, Amount, amountsOn, Names, partCounts}
+
+pub or-four : (a b c d : Bool) → ((a || b) || c) || d ≡ a || (b || (c || (d || false)))
+or-four true b c d = refl
+or-four false true c d = refl
+or-four false false true d = refl
+or-four false false false true = refl
+or-four false false false false = refl
+
+pub or-two : (a b : Bool) → a || b ≡ a || (b || false)
+or-two true b = refl
+or-two false true = refl
+or-two false false = refl
+
+pub receivers-told : (accounts bankCodes : ℕ) → Told (receiversOn accounts bankCodes) receiverWhy
+receivers-told accounts bankCodes = record { apart = λ v q x e. zero-one cc; same = λ x. refl }
+
+pub amounts-told : (sum : ℕ) → Told (amountsOn sum) centsWhy
+amounts-told sum = record { apart = λ v q x e. zero-one cc; same = λ x. refl }
+
+pub part-counts-told : Told partCounts numberWhy
+part-counts-told = record { apart = λ v q x e. zero-one cc; same = λ x. refl }
+
+pub receiver-is : (accounts bankCodes : ℕ) (x : Read Name Receiver) {a : ReceiverRead} → a ≡ ofRead (receiversOn accounts bankCodes) x
+    → {s : AccountSum} {t : BankCodeSum} {q : ℕ} → a ≡ receivers.Is s t q
+    → (v : Receiver) × (x ≡ done v q) × (s ≡ record { 0 = accounts + v .account }) × (t ≡ record { 0 = bankCodes + v .bankCode })
+receiver-is accounts bankCodes x told {s} {t} {q} given =
+    let r = reads (receivers-told accounts bankCodes) x told (receivers.Is s t q) (λ r e. zero-one cc) given in
+    let e = r .given in
+    let i : r .place ≡ q = cc in
+    (r .value, r .done ∙ ap (λ p. done (r .value) p) i, cc, cc)
+
+pub amount-is : (sum : ℕ) (x : Read Name Amount) {a : CentsRead} → a ≡ ofRead (amountsOn sum) x → {s : CentSum} {q : ℕ} → a ≡ cents.Is s q
+    → (v : Amount) × (x ≡ done v q) × (s ≡ record { 0 = sum + v .cents })
+amount-is sum x told {s} {q} given =
+    let r = reads (amounts-told sum) x told (cents.Is s q) (λ r e. zero-one cc) given in
+    let e = r .given in
+    let i : r .place ≡ q = cc in
+    (r .value, r .done ∙ ap (λ p. done (r .value) p) i, cc)
+
+pub part-count-is : (x : Read Name Names) {a : Number} → a ≡ ofRead partCounts x → {k q : ℕ} → a ≡ number.Is k q → (v : Names) × (x ≡ done v q) × (k ≡ v .partCount)
+part-count-is x told {k} {q} given =
+    let r = reads part-counts-told x told (number.Is k q) (λ r e. zero-one cc) given in
+    let e = r .given in
+    let i : r .place ≡ q = cc in
+    (r .value, r .done ∙ ap (λ p. done (r .value) p) i, cc)

@@ -1,0 +1,277 @@
+// The fields of a payment that every payment has, in three stretches: C2 to C7b, C8 to C14b, C15 to C18.
+ghost use mathlib.Core.Path.{_≡_};
+ghost use Prim.Native.Nat.{_+_};
+ghost use Rattle.form.specs.Kind.{digits};
+ghost use Rattle.form.specs.Place.{fieldAt, readAt};
+ghost use Rattle.rules.specs.Rules.{bankCodeOk, customerOk, keyOk};
+ghost use Rattle.rules.specs.Fields.{rulesC4, rulesC5, rulesC6, rulesC7a, rulesC10, rulesC11, rulesC12, rulesC18};
+ghost use Rattle.fields.specs.Answers.{ofField, ofRead, numbers, lettersOf};
+ghost use Rattle.sums.specs.Sums.{accountsOn, bankCodesOn, centsOn};
+ghost use Rattle.sections.specs.Sections.{receiver, receiversOn, receiverWhy, amount, amountsOn, names, partCounts};
+use fields::FileKind;
+use fields::Number;
+use fields::Passed;
+use fields::Refusal;
+use sums::AccountSum;
+use sums::AccountsRead;
+use sums::BankCodeSum;
+use sums::BankCodesRead;
+use sums::CentSum;
+use sums::CentsRead;
+
+// The sums with a payment's account number and bank code, and the place behind C7b.
+pub enum ReceiverRead {
+    Is(AccountSum, BankCodeSum, usize),
+    Refused(Refusal),
+}
+
+impl ReceiverRead {
+    pub fn why(self) -> Refusal
+        ensures { λ r. ⌜ r ≡ receiverWhy self ⌝ }
+    {
+        match self {
+            ReceiverRead::Is(_, _, _) => fields::NO_REFUSAL,
+            ReceiverRead::Refused(r) => r,
+        }
+    }
+}
+
+// The first of eight digits is neither 0 nor 9.
+fn bank_code_ok(v: u64) -> bool
+    ensures { λ r. ⌜ r ≡ bankCodeOk v ⌝ }
+{
+    let first = v / 10_000_000;
+    (first != 0) & (first != 9)
+}
+
+// The first and the last of thirteen digits are 0.
+fn customer_ok(v: u64) -> bool
+    ensures { λ r. ⌜ r ≡ customerOk v ⌝ }
+{
+    (v / 1_000_000_000_000 == 0) & (v % 10 == 0)
+}
+
+// The key is one of this kind of file.
+fn key_ok(kind: FileKind, v: u64) -> bool
+    ensures { λ r. ⌜ r ≡ keyOk (lettersOf kind) v ⌝ }
+{
+    if kind.credit {
+        return (v == 51) | (v == 53) | (v == 54) | (v == 56);
+    }
+    (v == 4) | (v == 5)
+}
+
+// C4, added to the sum of bank codes.
+fn bank_code_into(s: &[u8], p: usize, sum: BankCodeSum) -> BankCodesRead
+    ensures { λ r. ⌜ r ≡ ofField (bankCodesOn (sum .0)) p (p + 8) (fieldAt (digits 8) (rulesC4 (sum .0)) (now (s .entry)) p) ⌝ }
+{
+    let a = fields::number_at(s, p, 8);
+    let Number::Is(v, q) = a else {
+        return BankCodesRead::Refused(a.why());
+    };
+    if !bank_code_ok(v) {
+        return BankCodesRead::Refused(fields::refuse(fields::CONDITION, p));
+    }
+    sum.add(v, p, q)
+}
+
+// C5, added to the sum of account numbers.
+fn account_into(s: &[u8], p: usize, sum: AccountSum) -> AccountsRead
+    ensures { λ r. ⌜ r ≡ ofField (accountsOn (sum .0)) p (p + 10) (fieldAt (digits 10) (rulesC5 (sum .0)) (now (s .entry)) p) ⌝ }
+{
+    let a = fields::number_at(s, p, 10);
+    let Number::Is(v, q) = a else {
+        return AccountsRead::Refused(a.why());
+    };
+    if v == 0 {
+        return AccountsRead::Refused(fields::refuse(fields::CONDITION, p));
+    }
+    sum.add(v, p, q)
+}
+
+// C6.
+fn customer_at(s: &[u8], p: usize) -> Number
+    ensures { λ r. ⌜ r ≡ ofField numbers p (p + 13) (fieldAt (digits 13) rulesC6 (now (s .entry)) p) ⌝ }
+{
+    let a = fields::number_at(s, p, 13);
+    let Number::Is(v, q) = a else {
+        return Number::Refused(a.why());
+    };
+    if !customer_ok(v) {
+        return Number::Refused(fields::refuse(fields::CONDITION, p));
+    }
+    Number::Is(v, q)
+}
+
+// C7a.
+fn key_at(s: &[u8], p: usize, kind: FileKind) -> Number
+    ensures { λ r. ⌜ r ≡ ofField numbers p (p + 2) (fieldAt (digits 2) (rulesC7a (lettersOf kind)) (now (s .entry)) p) ⌝ }
+{
+    let a = fields::number_at(s, p, 2);
+    let Number::Is(v, q) = a else {
+        return Number::Refused(a.why());
+    };
+    if !key_ok(kind, v) {
+        return Number::Refused(fields::refuse(fields::NO_KEY, p));
+    }
+    Number::Is(v, q)
+}
+
+// C10.
+fn bank_code_at(s: &[u8], p: usize) -> Number
+    ensures { λ r. ⌜ r ≡ ofField numbers p (p + 8) (fieldAt (digits 8) rulesC10 (now (s .entry)) p) ⌝ }
+{
+    let a = fields::number_at(s, p, 8);
+    let Number::Is(v, q) = a else {
+        return Number::Refused(a.why());
+    };
+    if !bank_code_ok(v) {
+        return Number::Refused(fields::refuse(fields::CONDITION, p));
+    }
+    Number::Is(v, q)
+}
+
+// C11.
+fn account_at(s: &[u8], p: usize) -> Number
+    ensures { λ r. ⌜ r ≡ ofField numbers p (p + 10) (fieldAt (digits 10) rulesC11 (now (s .entry)) p) ⌝ }
+{
+    let a = fields::number_at(s, p, 10);
+    let Number::Is(v, q) = a else {
+        return Number::Refused(a.why());
+    };
+    if v == 0 {
+        return Number::Refused(fields::refuse(fields::CONDITION, p));
+    }
+    Number::Is(v, q)
+}
+
+// C12, added to the sum of cents.
+fn cents_into(s: &[u8], p: usize, sum: CentSum) -> CentsRead
+    ensures { λ r. ⌜ r ≡ ofField (centsOn (sum .0)) p (p + 11) (fieldAt (digits 11) (rulesC12 (sum .0)) (now (s .entry)) p) ⌝ }
+{
+    let a = fields::number_at(s, p, 11);
+    let Number::Is(v, q) = a else {
+        return CentsRead::Refused(a.why());
+    };
+    if v == 0 {
+        return CentsRead::Refused(fields::refuse(fields::CONDITION, p));
+    }
+    sum.add(v, p, q)
+}
+
+// C18, where C1 tells the length l.
+fn part_count_at(s: &[u8], p: usize, l: u64) -> Number
+    ensures { λ r. ⌜ r ≡ ofField numbers p (p + 2) (fieldAt (digits 2) (rulesC18 l) (now (s .entry)) p) ⌝ }
+{
+    let a = fields::number_at(s, p, 2);
+    let Number::Is(k, q) = a else {
+        return Number::Refused(a.why());
+    };
+    if 187 + 29 * k != l {
+        return Number::Refused(fields::refuse(fields::CONDITION, p));
+    }
+    Number::Is(k, q)
+}
+
+// C2 to C7b.
+pub fn receiver_at(
+    s: &[u8],
+    p: usize,
+    kind: FileKind,
+    accounts: AccountSum,
+    banks: BankCodeSum,
+) -> ReceiverRead
+    ensures { λ r. ⌜ r ≡ ofRead (receiversOn (accounts .0) (banks .0)) (readAt (receiver (lettersOf kind) (accounts .0) (banks .0)) (now (s .entry)) p) ⌝ }
+{
+    let c2 = fields::fixed_at(s, p, &fields::LETTER_C);
+    let Passed::To(p3) = c2 else {
+        return ReceiverRead::Refused(c2.why());
+    };
+    let c3 = fields::number_at(s, p3, 8);
+    let Number::Is(_, p4) = c3 else {
+        return ReceiverRead::Refused(c3.why());
+    };
+    let c4 = bank_code_into(s, p4, banks);
+    let BankCodesRead::Is(new_banks, p5) = c4 else {
+        return ReceiverRead::Refused(c4.why());
+    };
+    let c5 = account_into(s, p5, accounts);
+    let AccountsRead::Is(new_accounts, p6) = c5 else {
+        return ReceiverRead::Refused(c5.why());
+    };
+    let c6 = customer_at(s, p6);
+    let Number::Is(_, p7) = c6 else {
+        return ReceiverRead::Refused(c6.why());
+    };
+    let c7a = key_at(s, p7, kind);
+    let Number::Is(_, p8) = c7a else {
+        return ReceiverRead::Refused(c7a.why());
+    };
+    let c7b = fields::number_at(s, p8, 3);
+    let Number::Is(_, p9) = c7b else {
+        return ReceiverRead::Refused(c7b.why());
+    };
+    ReceiverRead::Is(new_accounts, new_banks, p9)
+}
+
+// C8 to C14b.
+pub fn amount_at(s: &[u8], p: usize, cents: CentSum) -> CentsRead
+    ensures { λ r. ⌜ r ≡ ofRead (amountsOn (cents .0)) (readAt (amount (cents .0)) (now (s .entry)) p) ⌝ }
+{
+    let c8 = fields::blanks_at(s, p, 1);
+    let Passed::To(p9) = c8 else {
+        return CentsRead::Refused(c8.why());
+    };
+    let c9 = fields::zeros_at(s, p9, 11);
+    let Passed::To(p10) = c9 else {
+        return CentsRead::Refused(c9.why());
+    };
+    let c10 = bank_code_at(s, p10);
+    let Number::Is(_, p11) = c10 else {
+        return CentsRead::Refused(c10.why());
+    };
+    let c11 = account_at(s, p11);
+    let Number::Is(_, p12) = c11 else {
+        return CentsRead::Refused(c11.why());
+    };
+    let c12 = cents_into(s, p12, cents);
+    let CentsRead::Is(new_cents, p13) = c12 else {
+        return CentsRead::Refused(c12.why());
+    };
+    let c13 = fields::blanks_at(s, p13, 3);
+    let Passed::To(p14) = c13 else {
+        return CentsRead::Refused(c13.why());
+    };
+    let c14a = fields::name_at(s, p14);
+    let Passed::To(p15) = c14a else {
+        return CentsRead::Refused(c14a.why());
+    };
+    let c14b = fields::blanks_at(s, p15, 8);
+    let Passed::To(p16) = c14b else {
+        return CentsRead::Refused(c14b.why());
+    };
+    CentsRead::Is(new_cents, p16)
+}
+
+// C15 to C18, where C1 tells the length l: the number of parts.
+pub fn names_at(s: &[u8], p: usize, l: u64) -> Number
+    ensures { λ r. ⌜ r ≡ ofRead partCounts (readAt (names l) (now (s .entry)) p) ⌝ }
+{
+    let c15 = fields::name_at(s, p);
+    let Passed::To(p16) = c15 else {
+        return Number::Refused(c15.why());
+    };
+    let c16 = fields::text_at(s, p16);
+    let Passed::To(p17) = c16 else {
+        return Number::Refused(c16.why());
+    };
+    let c17a = fields::fixed_at(s, p17, &fields::EURO);
+    let Passed::To(p18) = c17a else {
+        return Number::Refused(c17a.why());
+    };
+    let c17b = fields::blanks_at(s, p18, 2);
+    let Passed::To(p19) = c17b else {
+        return Number::Refused(c17b.why());
+    };
+    part_count_at(s, p19, l)
+}
