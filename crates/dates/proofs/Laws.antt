@@ -7,7 +7,7 @@ use mathlib.Core.Option.{Option, some}
 use Rattle.form.specs.Kind.{digits, maybe}
 use Rattle.form.specs.Reader.{Look, has}
 use Rattle.form.specs.Place.{lookAt}
-use Rattle.form.proofs.PlaceLaws.{look-digits, look-maybe}
+use Rattle.form.proofs.FilledLaws.{look-digits, look-maybe}
 use Rattle.rules.specs.Calendar.{ofDDMMYY, ofDDMMYYYY}
 use Rattle.rules.specs.Fields.{executionOf}
 use Rattle.calendar.specs.declared.Day.{Day}

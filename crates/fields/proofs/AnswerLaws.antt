@@ -5,9 +5,9 @@ use mathlib.Core.Path.{_≡_, refl, sym, ap, _∙_}
 use mathlib.Core.List.{List, []}
 use mathlib.Core.Option.{Option, none, some}
 use Rattle.form.specs.Kind.{Kind, Value, width}
-use Rattle.form.specs.Form.{Rule, Form, ret, field}
+use Rattle.form.specs.Form.{Rule, Form, field}
 use Rattle.form.specs.Reader.{Look, has, lacks}
-use Rattle.form.specs.Place.{lookAt, fieldAt, readAt}
+use Rattle.form.specs.Place.{lookAt, fieldAt}
 use Rattle.rules.specs.Fields.{Name}
 use Rattle.fields.specs.declared.Refusal.{Refusal}
 use Rattle.fields.specs.declared.Passed.{Passed}
@@ -19,7 +19,7 @@ use Rattle.fields.specs.declared.MaybeNumber.the-variants as maybe
 use Rattle.fields.specs.declared.FileKind.{FileKind}
 use Rattle.fields.specs.declared.KindRead.{KindRead}
 use Rattle.fields.specs.declared.KindRead.the-variants as kind
-use Rattle.fields.specs.Answers.{Telling, ofField, ofRead, passings, passedWhy, numbers, numberWhy, maybeNumbers, kindOf, kinds, kindWhy}
+use Rattle.fields.specs.Answers.{Telling, ofField, passings, passedWhy, numbers, numberWhy, maybeNumbers, kindOf, kinds, kindWhy}
 use Rattle.fields.proofs.WalkLaws.{Told, Fails, stands, Walk, On, past, past-ruled, stop, stop-ruled}
 
 pub zero-one : _≡_ {A = ℕ} 0 1 → ⊥

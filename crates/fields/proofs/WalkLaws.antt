@@ -5,7 +5,8 @@ use mathlib.Core.List.{List, []}
 use Rattle.form.specs.Kind.{Kind, Value, width}
 use Rattle.form.specs.Form.{Rule, Form, ret, field, _>>=_}
 use Rattle.form.specs.Reader.{Reason, Look, has, lacks, _then_}
-use Rattle.form.specs.Place.{lookAt, fieldAt, Read, done, halt, readAt}
+use Rattle.form.specs.Place.{lookAt, fieldAt, Read, done, halt, readAt, andThen}
+use Rattle.form.specs.Reader as reader
 use Rattle.form.proofs.PlaceLaws.{read-bind}
 use Rattle.rules.specs.Fields.{Name}
 use Rattle.fields.specs.declared.Refusal.{Refusal}
@@ -144,6 +145,15 @@ module _ {B S : Type 0} {u : Telling B S} {why : S → Refusal} (k : Told u why)
       by (done b q) e = record { value = b; place = q; done = refl; given = sym e }
       by (halt r) e = absurd (not (refusalAt (r .reason) (r .place)) (sym e))
 
+  -- or has refused it, and r is the refusal
+  pub halts : {y r : Refusal} → a ≡ u .refuses y → r ≡ why a → (z : reader.Refusal Name) × (x ≡ halt z) × (r ≡ refusalAt (z .reason) (z .place))
+  unfolding ofRead
+  halts {y} {r} given e = by x (sym told ∙ given)
+    where
+      by : (x : Read Name B) → ofRead u x ≡ u .refuses y → (z : reader.Refusal Name) × (x ≡ halt z) × (r ≡ refusalAt (z .reason) (z .place))
+      by (done b q) i = absurd (k .apart b q y i)
+      by (halt z) i = (z, refl, e ∙ ap why (given ∙ sym i) ∙ k .same (refusalAt (z .reason) (z .place)))
+
 module _ {A R : Type 0} {t : Telling A R} {f : List ℕ} {B : Type 0} {g : R} (m : Form Name B) (k : B → Form Name A) {p : ℕ} (w : Walk t f g (m >>= k) p) where
   pub past-part : {b : B} {q : ℕ} → readAt m f p ≡ done b q → Walk t f g (k b) q
   past-part e = record { owed = w .owed ∙ rw (read-bind m k f p, e) }
@@ -152,10 +162,17 @@ module _ {A R : Type 0} {t : Telling A R} {f : List ℕ} {B : Type 0} {g : R} (m
   pub stopped-part : {S : Type 0} {u : Telling B S} {why : S → Refusal} → Told u why → {a : S} {x r : Refusal} → a ≡ ofRead u (readAt m f p)
       → a ≡ u .refuses x → r ≡ why a → t .refuses r ≡ g
   unfolding ofRead
-  stopped-part {u = u} {why = why} o {a} {x} {r} told given e = by (readAt m f p) refl
-    where
-      by : (y : Read Name B) → readAt m f p ≡ y → t .refuses r ≡ g
-      by (done b q) i = absurd (o .apart b q x (ap (ofRead u) (sym i) ∙ sym told ∙ given))
-      by (halt z) i =
-          let here : a ≡ u .refuses (refusalAt (z .reason) (z .place)) = told ∙ ap (ofRead u) i in
-          rw (e ∙ ap why here ∙ o .same (refusalAt (z .reason) (z .place))) (sym (w .owed ∙ rw (read-bind m k f p, i)))
+  stopped-part o told given e =
+      let h = halts o (readAt m f p) told given e in
+      rw (h.2) (sym (w .owed ∙ ap (ofRead t) (read-bind m k f p ∙ ap (λ y. andThen y (λ a q. readAt (k a) f q)) h.1)))
+
+-- another value of what was read, and another answer for it
+pub retold : {A B R : Type 0} (t : Telling B R) (u : Telling A R) {f : List ℕ} {g : R} (m : Form Name A) (h : A → B) {p : ℕ}
+    → ((a : A) (q : ℕ) → t .gives (h a) q ≡ u .gives a q) → ((x : Refusal) → t .refuses x ≡ u .refuses x)
+    → Walk t f g (m >>= λ a. ret (h a)) p → Walk u f g m p
+unfolding readAt ofRead
+retold {A} {B} t u {f} m h {p} gives refuses w = record { owed = w .owed ∙ ap (ofRead t) (read-bind m (λ a. ret (h a)) f p) ∙ by (readAt m f p) }
+  where
+    by : (x : Read Name A) → ofRead t (andThen x (λ a q. done (h a) q)) ≡ ofRead u x
+    by (done a q) = gives a q
+    by (halt r) = refuses (refusalAt (r .reason) (r .place))

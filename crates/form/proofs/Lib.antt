@@ -5,3 +5,4 @@ pub mod ReaderLaws
 pub mod NumberLaws
 pub mod RulesLaws
 pub mod PlaceLaws
+pub mod FilledLaws

@@ -1,21 +1,18 @@
 -- The laws of the reader at a place: forms one after another are read one after another, and a whole file is read from its first byte.
-use Prim.Native.Nat.{ℕ, _+_, _^_, _≤_, _<_}
+use Prim.Native.Nat.{ℕ, _+_, _≤_}
 use native.Mathlib.Nat.{add-zero}
 use native.Mathlib.Omega.{arith}
 use mathlib.Core.Path.{_≡_, refl, sym, ap, _∙_}
 use mathlib.Core.Bool.{Bool, true, false}
 use mathlib.Core.List.{List}
-use mathlib.Core.Option.{some}
 use lib.ListN.{length, take, drop, length-drop, drop-of-length-le}
-use lib.Seq.{drop-cons, drop-drop, length-take-le}
-use lib.Dec.{T, leb, ltb, ltb→lt}
+use lib.Seq.{drop-cons, drop-drop}
+use lib.Dec.{leb}
 use borrow.Author.Tests.{le-leb, lt-leb, leb-true, leb-false}
-use Rattle.form.specs.Kind.{Kind, digits, maybe, Value, width, fits}
+use Rattle.form.specs.Kind.{Kind, Value, width}
 use Rattle.form.specs.Form.{Rule, Form, ret, field, _>>=_}
 use Rattle.form.specs.Reader.{Refusal, Answer, accepted, refused, Look, has, lacks, _then_, judge, obey, settle, ifWhole, look, later, onward, run}
 use Rattle.form.proofs.AnswerLaws.{has-or-lacks}
-use Rattle.form.proofs.BoolLaws.{and-both}
-use Rattle.form.proofs.KindLaws.{judge-has}
 use Rattle.form.specs.Place.{lookAt, fieldAt, done, goOn, readAt, andThen, ifOver, over}
 
 -- ---- one form after another
@@ -115,23 +112,3 @@ read-inside {N} {A} (field ν κ rs next) f p q a h e = by (fieldAt κ rs f p) r
         → ((v : Value κ) → p + width κ ≤ length f → readAt (next v) f (p + width κ) ≡ done a q → (p + width κ ≤ q) × (q ≤ length f)) → (p ≤ q) × (q ≤ length f)
     by (has v) s e i = let r = i v (field-inside κ rs f p v s) e in (omega arith, r.1)
     by (lacks z) s e i = absurd (let c : _≡_ {A = ℕ} 0 1 = cc in omega arith)
-
--- ---- what was read
-
--- a value that was read has room in its field
-pub look-fits : (κ : Kind) (f : List ℕ) (p : ℕ) (v : Value κ) → lookAt κ f p ≡ has v → T (fits κ v)
-unfolding lookAt
-look-fits κ f p v e = by (leb (p + width κ) (length f)) e
-  where
-    h : length (take (width κ) (drop p f)) ≡ width κ
-    h = length-take-le (width κ) (drop p f) (simp length-drop (omega (arith, look-inside κ f p v e)))
-
-    by : (b : Bool) → ifWhole b (judge κ (take (width κ) (drop p f))) ≡ has v → T (fits κ v)
-    by true e = judge-has κ (take (width κ) (drop p f)) v h e .0
-    by false e = absurd (has-or-lacks (sym e))
-
-pub look-digits : (w : ℕ) (f : List ℕ) (p v : ℕ) → lookAt (digits w) f p ≡ has v → v < 10 ^ w
-look-digits w f p v e = ltb→lt v (10 ^ w) (look-fits (digits w) f p v e)
-
-pub look-maybe : (w : ℕ) (f : List ℕ) (p v : ℕ) → lookAt (maybe w) f p ≡ has (some v) → v < 10 ^ w
-look-maybe w f p v e = ltb→lt v (10 ^ w) (and-both (ltb 0 w) (ltb v (10 ^ w)) (look-fits (maybe w) f p (some v) e) .1)

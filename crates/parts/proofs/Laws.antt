@@ -9,8 +9,7 @@ use lib.Seq.{drop-drop, take-take}
 use Rattle.form.specs.Kind.{Kind, fixed, digits, width, blanks}
 use Rattle.form.specs.Form.{Rule, Form, ret, get, any, _>>=_, _>>_}
 use Rattle.form.specs.Reader.{Look}
-use Rattle.form.specs.Place.{lookAt, fieldAt, Read, done, halt, readAt, andThen}
-use Rattle.form.proofs.PlaceLaws.{read-bind}
+use Rattle.form.specs.Place.{lookAt, fieldAt, Read, done, readAt}
 use Rattle.rules.specs.Values.{Part}
 use Rattle.rules.specs.Writing.{section, toSectionEnd, toNextPart}
 use Rattle.rules.specs.Fields.{Name, mark, words, text27, roomAfter, markRules, closingBlanks, parts}
@@ -18,7 +17,7 @@ use Rattle.fields.specs.declared.Refusal.{Refusal}
 use Rattle.fields.specs.declared.Passed.{Passed}
 use Rattle.fields.specs.declared.Passed.the-variants as passed
 use Rattle.fields.specs.Answers.{refusalOf, ofField, ofRead, passings, passedWhy}
-use Rattle.fields.proofs.WalkLaws.{Fails, Walk, start, last, reads, past-part, stopped-part}
+use Rattle.fields.proofs.WalkLaws.{Fails, Walk, start, retold, last, reads, past-part, stopped-part}
 use Rattle.fields.proofs.AnswerLaws.{zero-one, passings-told}
 use Rattle.fields.proofs.LeafLaws.{leb-leb}
 
@@ -57,12 +56,7 @@ fails-there same q x = record { reason = x .reason; lack = sym same ∙ x .lack;
 
 -- the value of a form makes no difference to an answer that keeps none
 pub not-kept : {A B : Type 0} {f : List ℕ} {g : Passed} (m : Form Name A) (h : A → B) {p : ℕ} → Walk passings f g (m >>= λ a. ret (h a)) p → Walk passings f g m p
-unfolding readAt ofRead
-not-kept {A} {B} {f} m h {p} w = record { owed = w .owed ∙ ap (ofRead passings) (read-bind m (λ a. ret (h a)) f p) ∙ by (readAt m f p) }
-  where
-    by : (x : Read Name A) → ofRead (passings {X = B}) (andThen x (λ a q. done (h a) q)) ≡ ofRead passings x
-    by (done a q) = refl
-    by (halt r) = refl
+not-kept m h = retold passings passings m h (λ a q. refl) (λ x. refl)
 
 -- a form that was passed, and the place behind it
 pub passed-form : {B : Type 0} {a : Passed} (x : Read Name B) → a ≡ ofRead passings x → {q : ℕ} → a ≡ passed.To q → (b : B) × (x ≡ done b q)

@@ -20,6 +20,12 @@ pub struct Sums {
     pub cents: CentSum,
 }
 
+pub const NO_SUMS: Sums = Sums {
+    accounts: AccountSum(0),
+    banks: BankCodeSum(0),
+    cents: CentSum(0),
+};
+
 // The total with one number more, and the place behind that number.
 pub enum AccountsRead {
     Is(AccountSum, usize),

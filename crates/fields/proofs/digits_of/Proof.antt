@@ -1,6 +1,6 @@
 -- fields::digits_of meets its contract: what was read so far is a number of as many digits.
 -- Assumes nothing.
-use Prim.Native.Nat.{_≤_, _-_}
+use Prim.Native.Nat.{_-_}
 use native.Mathlib.Omega.{arith}
 use mathlib.Core.Path.{sym}
 use lib.ListN.{length}

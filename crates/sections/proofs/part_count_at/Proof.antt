@@ -4,7 +4,7 @@ use native.Mathlib.Omega.{arith}
 use borrow.Author.Needs.{needs}
 use borrow.Author.Tests.{eq-eqb, ne-eqb}
 use Rattle.form.specs.Kind.{digits}
-use Rattle.form.proofs.PlaceLaws.{look-digits}
+use Rattle.form.proofs.FilledLaws.{look-digits}
 use Rattle.rules.specs.Fields.{rulesC18}
 use Rattle.fields.specs.Answers.{numbers}
 use Rattle.fields.proofs.AnswerLaws.{number-is, numbers-told}
