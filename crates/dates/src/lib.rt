@@ -20,13 +20,13 @@ pub enum Execution {
 
 // A day, and the place behind it.
 pub enum DayRead {
-    Is(Day, usize),
     Refused(Refusal),
+    Is(Day, usize),
 }
 
 pub enum ExecutionRead {
-    Is(Execution, usize),
     Refused(Refusal),
+    Is(Execution, usize),
 }
 
 impl DayRead {

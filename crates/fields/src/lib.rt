@@ -66,21 +66,21 @@ pub const NO_REFUSAL: Refusal = Refusal {
 
 // A field, or fields, of which no value is kept: the place behind them.
 pub enum Passed {
-    To(usize),
     Refused(Refusal),
+    To(usize),
 }
 
 // A number, and the place behind it.
 pub enum Number {
-    Is(u64, usize),
     Refused(Refusal),
+    Is(u64, usize),
 }
 
 // Blanks or a number, and the place behind them.
 pub enum MaybeNumber {
+    Refused(Refusal),
     Blank(usize),
     Is(u64, usize),
-    Refused(Refusal),
 }
 
 // What A3 tells: credits or debits, of a customer or of a bank.
@@ -90,8 +90,8 @@ pub struct FileKind {
 }
 
 pub enum KindRead {
-    Is(FileKind, usize),
     Refused(Refusal),
+    Is(FileKind, usize),
 }
 
 pub fn refuse(number: u8, place: usize) -> Refusal

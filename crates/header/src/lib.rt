@@ -29,20 +29,20 @@ pub struct Header {
 }
 
 pub enum HeaderRead {
-    Is(Header, usize),
     Refused(Refusal),
+    Is(Header, usize),
 }
 
 // A1 to A7: the kind of file, the receiving and the sending bank, the day of creation, and the place behind them.
 enum OpeningRead {
-    Is(FileKind, u64, u64, Day, usize),
     Refused(Refusal),
+    Is(FileKind, u64, u64, Day, usize),
 }
 
 // A8 to A12: the account, the reference, the day of execution, and the place behind them.
 enum OrderRead {
-    Is(u64, u64, Execution, usize),
     Refused(Refusal),
+    Is(u64, u64, Execution, usize),
 }
 
 impl HeaderRead {

@@ -12,16 +12,19 @@ use Rattle.sums.specs.declared.AccountSum.{AccountSum}
 use Rattle.sums.specs.declared.BankCodeSum.{BankCodeSum}
 use Rattle.sums.specs.declared.CentSum.{CentSum}
 use Rattle.sums.specs.declared.Sums.{Sums}
-use Rattle.sections.specs.Sections.{Receiver, Amount, amount, Names, names, joined}
+use Rattle.sections.specs.Sections.{Receiver, Amount, amount, Names, names, partCount, joined}
 use Rattle.payment.specs.declared.PaymentRead.{PaymentRead}
 use Rattle.payment.specs.declared.PaymentRead.the-variants as payments
 use Rattle.payment.specs.Adding.{withPayment, paymentsOn, paymentWhy}
 
-abbrev pub behindNames : Receiver → Amount → Names → Form Name Payment
-behindNames r a n = parts (n .partCount) 0 15 >>= λ ps. ret (joined r a n ps)
+abbrev pub behindCount : Receiver → Amount → Names → ℕ → Form Name Payment
+behindCount r a n k = parts k 0 15 >>= λ ps. ret (joined r a n ps)
+
+abbrev pub behindNames : ℕ → Receiver → Amount → Names → Form Name Payment
+behindNames l r a n = partCount l >>= λ k. behindCount r a n k
 
 abbrev pub behindAmount : ℕ → Receiver → Amount → Form Name Payment
-behindAmount l r a = names l >>= λ n. behindNames r a n
+behindAmount l r a = names >>= λ n. behindNames l r a n
 
 abbrev pub behindReceiver : ℕ → ℕ → Receiver → Form Name Payment
 behindReceiver cents l r = amount cents >>= λ a. behindAmount l r a

@@ -15,8 +15,8 @@ use sums::Sums;
 
 // The sums with one payment more, and the place behind it.
 pub enum PaymentRead {
-    Is(Sums, usize),
     Refused(Refusal),
+    Is(Sums, usize),
 }
 
 impl PaymentRead {
@@ -42,12 +42,16 @@ pub fn payment_at(s: &[u8], p: usize, kind: FileKind, sums: Sums, l: u64) -> Pay
         return PaymentRead::Refused(receiver.why());
     };
     let amount = sections::amount_at(s, p8, cents);
-    let CentsRead::Is(new_cents, p15) = amount else {
+    let CentsRead::Is(new_cents, p13) = amount else {
         return PaymentRead::Refused(amount.why());
     };
-    let names = sections::names_at(s, p15, l);
-    let Number::Is(k, first) = names else {
+    let names = sections::names_at(s, p13);
+    let Passed::To(p17) = names else {
         return PaymentRead::Refused(names.why());
+    };
+    let count = sections::part_count_at(s, p17, l);
+    let Number::Is(k, first) = count else {
+        return PaymentRead::Refused(count.why());
     };
     let parts = parts::read_parts(s, first, k);
     let Passed::To(end) = parts else {

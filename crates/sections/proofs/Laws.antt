@@ -1,15 +1,15 @@
 -- What the answers of the stretches tell, and the keys of a kind of file as the code tries them.
 use Prim.Native.Nat.{ℕ, _+_}
-use mathlib.Core.Path.{_≡_, refl, ap, _∙_}
+use mathlib.Core.Path.{_≡_, refl, ap, ap₂, _∙_}
 use mathlib.Core.Bool.{Bool, true, false, _||_}
 use Rattle.form.specs.Place.{Read, done}
 use Rattle.rules.specs.Fields.{Name}
 use Rattle.fields.specs.Answers.{ofRead}
 use Rattle.fields.proofs.WalkLaws.{Told, reads}
-use Rattle.fields.proofs.AnswerLaws.{zero-one}
+use Rattle.fields.proofs.AnswerLaws.{zero-one, numbers-told}
 use Rattle.fields.specs.declared.Number.{Number}
 use Rattle.fields.specs.declared.Number.the-variants as number
-use Rattle.fields.specs.Answers.{numberWhy}
+use Rattle.fields.specs.Answers.{numbers}
 use Rattle.sums.specs.declared.AccountSum.{AccountSum}
 use Rattle.sums.specs.declared.BankCodeSum.{BankCodeSum}
 use Rattle.sums.specs.declared.CentSum.{CentSum}
@@ -18,7 +18,7 @@ use Rattle.sums.specs.declared.CentsRead.the-variants as cents
 use Rattle.sums.specs.Sums.{centsWhy}
 use Rattle.sections.specs.declared.ReceiverRead.{ReceiverRead}
 use Rattle.sections.specs.declared.ReceiverRead.the-variants as receivers
-use Rattle.sections.specs.Sections.{Receiver, receiversOn, receiverWhy, Amount, amountsOn, Names, partCounts}
+use Rattle.sections.specs.Sections.{Receiver, receiversOn, receiverWhy, Amount, amountsOn}
 
 pub or-four : (a b c d : Bool) → ((a || b) || c) || d ≡ a || (b || (c || (d || false)))
 or-four true b c d = refl
@@ -38,9 +38,6 @@ receivers-told accounts bankCodes = record { apart = λ v q x e. zero-one cc; sa
 pub amounts-told : (sum : ℕ) → Told (amountsOn sum) centsWhy
 amounts-told sum = record { apart = λ v q x e. zero-one cc; same = λ x. refl }
 
-pub part-counts-told : Told partCounts numberWhy
-part-counts-told = record { apart = λ v q x e. zero-one cc; same = λ x. refl }
-
 pub receiver-is : (accounts bankCodes : ℕ) (x : Read Name Receiver) {a : ReceiverRead} → a ≡ ofRead (receiversOn accounts bankCodes) x
     → {s : AccountSum} {t : BankCodeSum} {q : ℕ} → a ≡ receivers.Is s t q
     → (v : Receiver) × (x ≡ done v q) × (s ≡ record { 0 = accounts + v .account }) × (t ≡ record { 0 = bankCodes + v .bankCode })
@@ -58,9 +55,10 @@ amount-is sum x told {s} {q} given =
     let i : r .place ≡ q = cc in
     (r .value, r .done ∙ ap (λ p. done (r .value) p) i, cc)
 
-pub part-count-is : (x : Read Name Names) {a : Number} → a ≡ ofRead partCounts x → {k q : ℕ} → a ≡ number.Is k q → (v : Names) × (x ≡ done v q) × (k ≡ v .partCount)
+pub part-count-is : (x : Read Name ℕ) {a : Number} → a ≡ ofRead numbers x → {k q : ℕ} → a ≡ number.Is k q → x ≡ done k q
 part-count-is x told {k} {q} given =
-    let r = reads part-counts-told x told (number.Is k q) (λ r e. zero-one cc) given in
+    let r = reads numbers-told x told (number.Is k q) (λ r e. zero-one cc) given in
     let e = r .given in
     let i : r .place ≡ q = cc in
-    (r .value, r .done ∙ ap (λ p. done (r .value) p) i, cc)
+    let j : r .value ≡ k = cc in
+    r .done ∙ ap₂ done j i

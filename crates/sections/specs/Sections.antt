@@ -8,8 +8,6 @@ use Rattle.rules.specs.Signs.{ascii, zeros}
 use Rattle.rules.specs.Values.{Payment, Part, Totals}
 use Rattle.rules.specs.Fields.{Name, C2, C3, C4, C5, C6, C7a, C7b, C8, C9, C10, C11, C12, C13, C14a, C14b, C15, C16, C17a, C17b, C18, must, text27, rulesC4, rulesC5, rulesC6, rulesC7a, rulesC10, rulesC11, rulesC12, rulesOfNames, rulesC18, parts, payment}
 use Rattle.fields.specs.declared.Refusal.{Refusal}
-use Rattle.fields.specs.declared.Number.{Number}
-use Rattle.fields.specs.declared.Number.the-variants as number
 use Rattle.fields.specs.Answers.{refusalOf, Telling}
 use Rattle.sums.specs.declared.CentsRead.{CentsRead}
 use Rattle.sums.specs.declared.CentsRead.the-variants as cents
@@ -56,13 +54,12 @@ abbrev pub receiverWhy : ReceiverRead → Refusal
 receiverWhy (receivers.Is a b q) = refusalOf 0 0
 receiverWhy (receivers.Refused r) = r
 
--- ---- C8 to C14b
+-- ---- C8 to C12
 
 pub record Amount : Type 0 where
   pub senderBank : ℕ
   pub senderAccount : ℕ
   pub cents : ℕ
-  pub beneficiary : List ℕ
 
 abbrev pub amount : ℕ → Form Name Amount
 amount sum = do
@@ -71,32 +68,34 @@ amount sum = do
   senderBank ← get C10 (digits 8) rulesC10
   senderAccount ← get C11 (digits 10) rulesC11
   cents ← get C12 (digits 11) (rulesC12 sum)
-  must C13 (blanks 3)
-  beneficiary ← get C14a text27 rulesOfNames
-  must C14b (blanks 8)
-  ret (record { senderBank = senderBank; senderAccount = senderAccount; cents = cents; beneficiary = beneficiary })
+  ret (record { senderBank = senderBank; senderAccount = senderAccount; cents = cents })
 
 abbrev pub amountsOn : ℕ → Telling Amount CentsRead
 amountsOn sum = record { gives = λ a q. cents.Is (record { 0 = sum + a .cents }) q; refuses = cents.Refused }
 
--- ---- C15 to C18
+-- ---- C13 to C16: nothing is kept of the texts
 
 pub record Names : Type 0 where
+  pub beneficiary : List ℕ
   pub sender : List ℕ
   pub purpose : List ℕ
-  pub partCount : ℕ
 
-abbrev pub names : ℕ → Form Name Names
-names l = do
+abbrev pub names : Form Name Names
+names = do
+  must C13 (blanks 3)
+  beneficiary ← get C14a text27 rulesOfNames
+  must C14b (blanks 8)
   sender ← get C15 text27 rulesOfNames
   purpose ← any C16 text27
+  ret (record { beneficiary = beneficiary; sender = sender; purpose = purpose })
+
+-- ---- C17a to C18
+
+abbrev pub partCount : ℕ → Form Name ℕ
+partCount l = do
   must C17a (ascii "1")
   must C17b (blanks 2)
-  k ← get C18 (digits 2) (rulesC18 l)
-  ret (record { sender = sender; purpose = purpose; partCount = k })
-
-abbrev pub partCounts : Telling Names Number
-partCounts = record { gives = λ n q. number.Is (n .partCount) q; refuses = number.Refused }
+  get C18 (digits 2) (rulesC18 l)
 
 -- ---- the whole payment
 
@@ -112,7 +111,7 @@ joined r a n ps =
       senderBank = a .senderBank;
       senderAccount = a .senderAccount;
       cents = a .cents;
-      beneficiary = a .beneficiary;
+      beneficiary = n .beneficiary;
       sender = n .sender;
       purpose = n .purpose;
       parts = ps;
@@ -122,8 +121,9 @@ abbrev pub stretches : List ℕ → Totals → ℕ → Form Name Payment
 stretches kind t l = do
   r ← receiver kind (t .accounts) (t .bankCodes)
   a ← amount (t .cents)
-  n ← names l
-  ps ← parts (n .partCount) 0 15
+  n ← names
+  k ← partCount l
+  ps ← parts k 0 15
   ret (joined r a n ps)
 
 pub in-stretches : (kind : List ℕ) (t : Totals) (l : ℕ) → payment kind t l ≡ stretches kind t l

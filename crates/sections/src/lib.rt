@@ -1,13 +1,13 @@
-// The fields of a payment that every payment has, in three stretches: C2 to C7b, C8 to C14b, C15 to C18.
+// The fields of a payment that every payment has, in four stretches: C2 to C7b, C8 to C12, C13 to C16, C17a to C18.
 ghost use mathlib.Core.Path.{_≡_};
 ghost use Prim.Native.Nat.{_+_};
 ghost use Rattle.form.specs.Kind.{digits};
 ghost use Rattle.form.specs.Place.{fieldAt, readAt};
 ghost use Rattle.rules.specs.Rules.{bankCodeOk, customerOk, keyOk};
 ghost use Rattle.rules.specs.Fields.{rulesC4, rulesC5, rulesC6, rulesC7a, rulesC10, rulesC11, rulesC12, rulesC18};
-ghost use Rattle.fields.specs.Answers.{ofField, ofRead, numbers, lettersOf};
+ghost use Rattle.fields.specs.Answers.{ofField, ofRead, passings, numbers, lettersOf};
 ghost use Rattle.sums.specs.Sums.{accountsOn, bankCodesOn, centsOn};
-ghost use Rattle.sections.specs.Sections.{receiver, receiversOn, receiverWhy, amount, amountsOn, names, partCounts};
+ghost use Rattle.sections.specs.Sections.{receiver, receiversOn, receiverWhy, amount, amountsOn, names, partCount};
 use fields::FileKind;
 use fields::Number;
 use fields::Passed;
@@ -21,8 +21,8 @@ use sums::CentsRead;
 
 // The sums with a payment's account number and bank code, and the place behind C7b.
 pub enum ReceiverRead {
-    Is(AccountSum, BankCodeSum, usize),
     Refused(Refusal),
+    Is(AccountSum, BankCodeSum, usize),
 }
 
 impl ReceiverRead {
@@ -160,7 +160,7 @@ fn cents_into(s: &[u8], p: usize, sum: CentSum) -> CentsRead
 }
 
 // C18, where C1 tells the length l.
-fn part_count_at(s: &[u8], p: usize, l: u64) -> Number
+fn fitting_count_at(s: &[u8], p: usize, l: u64) -> Number
     ensures { λ r. ⌜ r ≡ ofField numbers p (p + 2) (fieldAt (digits 2) (rulesC18 l) (now (s .entry)) p) ⌝ }
 {
     let a = fields::number_at(s, p, 2);
@@ -214,7 +214,7 @@ pub fn receiver_at(
     ReceiverRead::Is(new_accounts, new_banks, p9)
 }
 
-// C8 to C14b.
+// C8 to C12.
 pub fn amount_at(s: &[u8], p: usize, cents: CentSum) -> CentsRead
     ensures { λ r. ⌜ r ≡ ofRead (amountsOn (cents .0)) (readAt (amount (cents .0)) (now (s .entry)) p) ⌝ }
 {
@@ -234,44 +234,43 @@ pub fn amount_at(s: &[u8], p: usize, cents: CentSum) -> CentsRead
     let Number::Is(_, p12) = c11 else {
         return CentsRead::Refused(c11.why());
     };
-    let c12 = cents_into(s, p12, cents);
-    let CentsRead::Is(new_cents, p13) = c12 else {
-        return CentsRead::Refused(c12.why());
-    };
-    let c13 = fields::blanks_at(s, p13, 3);
-    let Passed::To(p14) = c13 else {
-        return CentsRead::Refused(c13.why());
-    };
-    let c14a = fields::name_at(s, p14);
-    let Passed::To(p15) = c14a else {
-        return CentsRead::Refused(c14a.why());
-    };
-    let c14b = fields::blanks_at(s, p15, 8);
-    let Passed::To(p16) = c14b else {
-        return CentsRead::Refused(c14b.why());
-    };
-    CentsRead::Is(new_cents, p16)
+    cents_into(s, p12, cents)
 }
 
-// C15 to C18, where C1 tells the length l: the number of parts.
-pub fn names_at(s: &[u8], p: usize, l: u64) -> Number
-    ensures { λ r. ⌜ r ≡ ofRead partCounts (readAt (names l) (now (s .entry)) p) ⌝ }
+// C13 to C16.
+pub fn names_at(s: &[u8], p: usize) -> Passed
+    ensures { λ r. ⌜ r ≡ ofRead passings (readAt names (now (s .entry)) p) ⌝ }
 {
-    let c15 = fields::name_at(s, p);
+    let c13 = fields::blanks_at(s, p, 3);
+    let Passed::To(p14) = c13 else {
+        return c13;
+    };
+    let c14a = fields::name_at(s, p14);
+    let Passed::To(p14b) = c14a else {
+        return c14a;
+    };
+    let c14b = fields::blanks_at(s, p14b, 8);
+    let Passed::To(p15) = c14b else {
+        return c14b;
+    };
+    let c15 = fields::name_at(s, p15);
     let Passed::To(p16) = c15 else {
-        return Number::Refused(c15.why());
+        return c15;
     };
-    let c16 = fields::text_at(s, p16);
-    let Passed::To(p17) = c16 else {
-        return Number::Refused(c16.why());
-    };
-    let c17a = fields::fixed_at(s, p17, &fields::EURO);
-    let Passed::To(p18) = c17a else {
+    fields::text_at(s, p16)
+}
+
+// C17a to C18, where C1 tells the length l: the number of parts.
+pub fn part_count_at(s: &[u8], p: usize, l: u64) -> Number
+    ensures { λ r. ⌜ r ≡ ofRead numbers (readAt (partCount l) (now (s .entry)) p) ⌝ }
+{
+    let c17a = fields::fixed_at(s, p, &fields::EURO);
+    let Passed::To(p17b) = c17a else {
         return Number::Refused(c17a.why());
     };
-    let c17b = fields::blanks_at(s, p18, 2);
-    let Passed::To(p19) = c17b else {
+    let c17b = fields::blanks_at(s, p17b, 2);
+    let Passed::To(p18) = c17b else {
         return Number::Refused(c17b.why());
     };
-    part_count_at(s, p19, l)
+    fitting_count_at(s, p18, l)
 }

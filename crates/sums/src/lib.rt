@@ -28,18 +28,18 @@ pub const NO_SUMS: Sums = Sums {
 
 // The total with one number more, and the place behind that number.
 pub enum AccountsRead {
-    Is(AccountSum, usize),
     Refused(Refusal),
+    Is(AccountSum, usize),
 }
 
 pub enum BankCodesRead {
-    Is(BankCodeSum, usize),
     Refused(Refusal),
+    Is(BankCodeSum, usize),
 }
 
 pub enum CentsRead {
-    Is(CentSum, usize),
     Refused(Refusal),
+    Is(CentSum, usize),
 }
 
 impl AccountSum {

@@ -1,22 +1,21 @@
--- payment::payment_at meets its contract: a walk through its three stretches and its parts.
+-- payment::payment_at meets its contract: a walk through its four stretches and its parts.
 -- Assumes nothing.
 use Prim.Native.Nat.{ℕ}
-use mathlib.Core.List.{List}
-use mathlib.Core.Path.{_∙_, _≡_, ap}
+use mathlib.Core.Path.{_∙_}
 use borrow.Author.Needs.{needs}
 use Rattle.form.specs.Form.{Form, ret}
 use Rattle.form.specs.Place.{readAt}
 use Rattle.rules.specs.Fields.{Name, parts, payment}
-use Rattle.rules.specs.Values.{Part, Payment}
-use Rattle.fields.specs.Answers.{lettersOf, ofRead, passings}
-use Rattle.fields.proofs.AnswerLaws.{passings-told}
+use Rattle.rules.specs.Values.{Payment}
+use Rattle.fields.specs.Answers.{lettersOf, ofRead}
+use Rattle.fields.proofs.AnswerLaws.{numbers-told, passings-told}
 use Rattle.fields.proofs.WalkLaws.{Walk, finish, past-part, start, stopped-part}
 use Rattle.sums.specs.Sums.{totalsOf}
 use Rattle.parts.proofs.Laws.{passed-form}
-use Rattle.sections.specs.Sections.{Amount, Names, Receiver, amount, joined, names, receiver}
-use Rattle.sections.proofs.Laws.{amount-is, amounts-told, part-count-is, part-counts-told, receiver-is, receivers-told}
+use Rattle.sections.specs.Sections.{Amount, Names, Receiver, amount, joined, names, partCount, receiver}
+use Rattle.sections.proofs.Laws.{amount-is, amounts-told, part-count-is, receiver-is, receivers-told}
 use Rattle.payment.specs.Adding.{paymentsOn}
-use Rattle.payment.proofs.Laws.{behindAmount, behindNames, behindReceiver, sums-are}
+use Rattle.payment.proofs.Laws.{behindAmount, behindCount, behindNames, behindReceiver, sums-are}
 use Rattle.payment.specs.declared.PaymentRead.{PaymentRead}
 use Rattle.payment.proofs.payment_at.Statement.{statement}
 use Rattle.payment.proofs.payment_at.Tie as tie
@@ -36,7 +35,7 @@ abbrev paid : (c : tie.After-known-told2) → Amount
 paid c = amount-is _ _ (c .before .before .before .amount-at .ensures) (c .before .amount .given .1) .0
 
 abbrev named : (c : tie.After-known-told3) → Names
-named c = part-count-is _ (c .before .before .before .names-at .ensures) (c .before .names .given .1) .0
+named c = passed-form _ (c .before .before .before .names-at .ensures) (c .before .names .given .1) .0
 
 past0 : (c : tie.Start) → At c (payment (lettersOf (c .args .kind)) (totalsOf 0 (c .args .sums)) (c .args .l)) (c .args .p)
 past0 c = start (payment (lettersOf (c .args .kind)) (totalsOf 0 (c .args .sums)) (c .args .l)) (c .args .p)
@@ -47,13 +46,11 @@ past1 c = past-part (receiver (lettersOf (c .before .before .before .before .bef
 past2 : (c : tie.After-known-told2) → let a = c .before .before .before .before .before .before .before .before .before .before .before .before in At a (behindAmount (a .args .l) (received (c .before .before .before .before)) (paid c)) (c .before .amount .given .0 .1 .0)
 past2 c = past-part (amount (c .before .before .before .before .before .before .before .before .before .before .before .before .args .sums .cents .0)) (behindAmount (c .before .before .before .before .before .before .before .before .before .before .before .before .args .l) (received (c .before .before .before .before))) (past1 (c .before .before .before .before)) (amount-is _ _ (c .before .before .before .amount-at .ensures) (c .before .amount .given .1) .1)
 
-past3 : (c : tie.After-known-told3) → At (c .before .before .before .before .before .before .before .before .before .before .before .before .before .before .before .before) (behindNames (received (c .before .before .before .before .before .before .before .before)) (paid (c .before .before .before .before)) (named c)) (c .before .names .given .0 .1 .0)
-past3 c = past-part (names (c .before .before .before .before .before .before .before .before .before .before .before .before .before .before .before .before .args .l)) (behindNames (received (c .before .before .before .before .before .before .before .before)) (paid (c .before .before .before .before))) (past2 (c .before .before .before .before)) (part-count-is _ (c .before .before .before .names-at .ensures) (c .before .names .given .1) .1)
+past3 : (c : tie.After-known-told3) → let a = c .before .before .before .before .before .before .before .before .before .before .before .before .before .before .before .before in At a (behindNames (a .args .l) (received (c .before .before .before .before .before .before .before .before)) (paid (c .before .before .before .before)) (named c)) (c .before .names .given .0 .0)
+past3 c = past-part names (behindNames (c .before .before .before .before .before .before .before .before .before .before .before .before .before .before .before .before .args .l) (received (c .before .before .before .before .before .before .before .before)) (paid (c .before .before .before .before))) (past2 (c .before .before .before .before)) (passed-form _ (c .before .before .before .names-at .ensures) (c .before .names .given .1) .1)
 
--- the number of parts that the code passes on is that of C18
-counted : (c : tie.After-known-told3) → let a = c .before .before .before .before .before .before .before .before .before .before .before .before .before .before .before .before .args in (p : ℕ)
-    → ofRead {A = List Part} passings (readAt (parts (c .before .names .given .0 .0) 0 15) (a .s .now) p) ≡ ofRead passings (readAt (parts (named c .partCount) 0 15) (a .s .now) p)
-counted c p = ap (λ k. ofRead passings (readAt (parts k 0 15) (c .before .before .before .before .before .before .before .before .before .before .before .before .before .before .before .before .args .s .now) p)) (part-count-is _ (c .before .before .before .names-at .ensures) (c .before .names .given .1) .2)
+past4 : (c : tie.After-known-told4) → At (c .before .before .before .before .before .before .before .before .before .before .before .before .before .before .before .before .before .before .before .before) (behindCount (received (c .before .before .before .before .before .before .before .before .before .before .before .before)) (paid (c .before .before .before .before .before .before .before .before)) (named (c .before .before .before .before)) (c .before .count .given .0 .0)) (c .before .count .given .0 .1 .0)
+past4 c = past-part (partCount (c .before .before .before .before .before .before .before .before .before .before .before .before .before .before .before .before .before .before .before .before .args .l)) (behindCount (received (c .before .before .before .before .before .before .before .before .before .before .before .before)) (paid (c .before .before .before .before .before .before .before .before)) (named (c .before .before .before .before))) (past3 (c .before .before .before .before)) (part-count-is _ (c .before .before .before .part-count-at .ensures) (c .before .count .given .1))
 
 receiver-at-requires : tie.Need-receiver-at-requires
 receiver-at-requires c κs = search needs
@@ -98,13 +95,13 @@ why-requires-3 : tie.Need-why-requires-3
 why-requires-3 c κs = search needs
 
 returns-3 : tie.Need-returns-3
-returns-3 c = stopped-part (names (c .before .before .before .before .before .before .before .before .before .before .before .before .before .before .before .before .args .l)) (behindNames (received (c .before .before .before .before .before .before .before .before)) (paid (c .before .before .before .before))) (past2 (c .before .before .before .before)) part-counts-told (c .before .before .before .names-at .ensures) (c .before .enum-told3 .given .1) (c .why3 .ensures)
+returns-3 c = stopped-part names (behindNames (c .before .before .before .before .before .before .before .before .before .before .before .before .before .before .before .before .args .l) (received (c .before .before .before .before .before .before .before .before)) (paid (c .before .before .before .before))) (past2 (c .before .before .before .before)) passings-told (c .before .before .before .names-at .ensures) (c .before .enum-told3 .given .1) (c .why3 .ensures)
 
-read-parts-requires : tie.Need-read-parts-requires
-read-parts-requires c κs = search needs
+part-count-at-requires : tie.Need-part-count-at-requires
+part-count-at-requires c κs = search needs
 
-enum-known-parts : tie.Need-enum-known-parts
-enum-known-parts c = search needs
+enum-known-count : tie.Need-enum-known-count
+enum-known-count c = search needs
 
 enum-told-4 : tie.Need-enum-told-4
 enum-told-4 c = search needs
@@ -113,14 +110,28 @@ why-requires-4 : tie.Need-why-requires-4
 why-requires-4 c κs = search needs
 
 returns-4 : tie.Need-returns-4
-returns-4 c = stopped-part (parts (named (c .before .before .before .before) .partCount) 0 15) (λ ps. ret (joined (received (c .before .before .before .before .before .before .before .before .before .before .before .before)) (paid (c .before .before .before .before .before .before .before .before)) (named (c .before .before .before .before)) ps)) (past3 (c .before .before .before .before)) passings-told (c .before .before .before .read-parts .ensures ∙ counted (c .before .before .before .before) _) (c .before .enum-told4 .given .1) (c .why4 .ensures)
+returns-4 c = stopped-part (partCount (c .before .before .before .before .before .before .before .before .before .before .before .before .before .before .before .before .before .before .before .before .args .l)) (behindCount (received (c .before .before .before .before .before .before .before .before .before .before .before .before)) (paid (c .before .before .before .before .before .before .before .before)) (named (c .before .before .before .before))) (past3 (c .before .before .before .before)) numbers-told (c .before .before .before .part-count-at .ensures) (c .before .enum-told4 .given .1) (c .why4 .ensures)
+
+read-parts-requires : tie.Need-read-parts-requires
+read-parts-requires c κs = search needs
+
+enum-known-parts : tie.Need-enum-known-parts
+enum-known-parts c = search needs
+
+enum-told-5 : tie.Need-enum-told-5
+enum-told-5 c = search needs
+
+why-requires-5 : tie.Need-why-requires-5
+why-requires-5 c κs = search needs
 
 returns-5 : tie.Need-returns-5
-returns-5 c =
-    let r = receiver-is _ _ _ (c .before .before .before .before .before .before .before .before .before .before .before .before .before .before .before .receiver-at .ensures) (c .before .before .before .before .before .before .before .before .before .before .before .before .before .receiver .given .1) in
-    let a = amount-is _ _ (c .before .before .before .before .before .before .before .before .before .before .before .amount-at .ensures) (c .before .before .before .before .before .before .before .before .before .amount .given .1) in
-    sums-are r.2 r.3 a.2
-    ∙ finish (past-part (parts (named (c .before .before .before .before) .partCount) 0 15) (λ ps. ret (joined (received (c .before .before .before .before .before .before .before .before .before .before .before .before)) (paid (c .before .before .before .before .before .before .before .before)) (named (c .before .before .before .before)) ps)) (past3 (c .before .before .before .before)) (passed-form _ (c .before .before .before .read-parts .ensures ∙ counted (c .before .before .before .before) _) (c .before .parts .given .1) .1))
+returns-5 c = stopped-part (parts (c .before .before .before .before .before .count .given .0 .0) 0 15) (λ ps. ret (joined (received (c .before .before .before .before .before .before .before .before .before .before .before .before .before .before .before .before)) (paid (c .before .before .before .before .before .before .before .before .before .before .before .before)) (named (c .before .before .before .before .before .before .before .before)) ps)) (past4 (c .before .before .before .before)) passings-told (c .before .before .before .read-parts .ensures) (c .before .enum-told5 .given .1) (c .why5 .ensures)
+
+returns-6 : tie.Need-returns-6
+returns-6 c =
+    let r = receiver-is _ _ _ (c .before .before .before .before .before .before .before .before .before .before .before .before .before .before .before .before .before .before .before .receiver-at .ensures) (c .before .before .before .before .before .before .before .before .before .before .before .before .before .before .before .before .before .receiver .given .1) in
+    let a = amount-is _ _ (c .before .before .before .before .before .before .before .before .before .before .before .before .before .before .before .amount-at .ensures) (c .before .before .before .before .before .before .before .before .before .before .before .before .before .amount .given .1) in
+    sums-are r.2 r.3 a.2 ∙ finish (past-part (parts (c .before .before .before .before .before .count .given .0 .0) 0 15) (λ ps. ret (joined (received (c .before .before .before .before .before .before .before .before .before .before .before .before .before .before .before .before)) (paid (c .before .before .before .before .before .before .before .before .before .before .before .before)) (named (c .before .before .before .before .before .before .before .before)) ps)) (past4 (c .before .before .before .before)) (passed-form _ (c .before .before .before .read-parts .ensures) (c .before .parts .given .1) .1))
 
 pub payment-at-spec : {M : Type 1} → statement M
 payment-at-spec =
@@ -141,9 +152,14 @@ payment-at-spec =
     enum-told-3
     why-requires-3
     returns-3
-    read-parts-requires
-    enum-known-parts
+    part-count-at-requires
+    enum-known-count
     enum-told-4
     why-requires-4
     returns-4
-    returns-5)
+    read-parts-requires
+    enum-known-parts
+    enum-told-5
+    why-requires-5
+    returns-5
+    returns-6)
