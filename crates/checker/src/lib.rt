@@ -12,6 +12,7 @@ ghost use Rattle.checker.specs.Checking.{checkedOf, refusedWith, restOn}
 use fields::Number;
 use fields::Passed;
 use fields::Refusal;
+use fields::numbers;
 use header::HeaderRead;
 use payment::PaymentRead;
 use sums::Sums;
@@ -61,15 +62,15 @@ fn length_at(s: &[u8], p: usize, count: u64, sums: Sums) -> Number
     let ends = l == END_LENGTH;
     let legal = (ends & (count >= 1)) | is_length(l);
     if !legal {
-        return Number::Refused(fields::refuse(fields::NO_LENGTH, p));
+        return Number::Refused(fields::refuse(numbers::NO_LENGTH, p));
     }
     let counted = ends | (count < MOST_PAYMENTS);
     if !counted {
-        return Number::Refused(fields::refuse(fields::NO_MORE_PAYMENTS, p));
+        return Number::Refused(fields::refuse(numbers::NO_MORE_PAYMENTS, p));
     }
     let summed = ends | (sums.cents.0 < sums::MOST_CENTS);
     if !summed {
-        return Number::Refused(fields::refuse(fields::CENTS_OVER, p));
+        return Number::Refused(fields::refuse(numbers::CENTS_OVER, p));
     }
     Number::Is(l, q)
 }
@@ -83,7 +84,7 @@ fn ended(s: &[u8], p: usize, count: u64, sums: Sums) -> Checked
         return refused(e.why());
     };
     if s.len() > z {
-        return refused(fields::refuse(fields::SURPLUS, z));
+        return refused(fields::refuse(numbers::SURPLUS, z));
     }
     Checked {
         number: 0,

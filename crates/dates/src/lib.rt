@@ -11,6 +11,7 @@ use calendar::Day;
 use fields::MaybeNumber;
 use fields::Number;
 use fields::Refusal;
+use fields::numbers;
 
 // The day of execution, A11b: no date, or a day.
 pub enum Execution {
@@ -61,7 +62,7 @@ pub fn made_at(s: &[u8], p: usize) -> DayRead
     };
     let d = calendar::of_ddmmyy(n);
     if !calendar::is_day(d) {
-        return DayRead::Refused(fields::refuse(fields::NO_DATE, p));
+        return DayRead::Refused(fields::refuse(numbers::NO_DATE, p));
     }
     DayRead::Is(d, q)
 }
@@ -76,10 +77,10 @@ pub fn execution_at(s: &[u8], p: usize, made: Day) -> ExecutionRead
         MaybeNumber::Is(n, q) => {
             let d = calendar::of_ddmmyyyy(n);
             if !calendar::is_day(d) {
-                return ExecutionRead::Refused(fields::refuse(fields::NO_DATE, p));
+                return ExecutionRead::Refused(fields::refuse(numbers::NO_DATE, p));
             }
             if !calendar::in_span(made, d) {
-                return ExecutionRead::Refused(fields::refuse(fields::NO_DATE, p));
+                return ExecutionRead::Refused(fields::refuse(numbers::NO_DATE, p));
             }
             ExecutionRead::Is(Execution::On(d), q)
         }

@@ -9,6 +9,8 @@ ghost use Rattle.fields.specs.Stretches.{widest};
 ghost use Rattle.sums.specs.Sums.{totalsOf};
 use fields::Number;
 use fields::Passed;
+use fields::fixed;
+use fields::numbers;
 use sums::Sums;
 
 // A number of w digits at p that is the counted one; 17 digits where w is more.
@@ -20,7 +22,7 @@ fn figure_at(s: &[u8], p: usize, w: usize, counted: u64) -> Passed
         return Passed::Refused(a.why());
     };
     if v != counted {
-        return Passed::Refused(fields::refuse(fields::NOT_COUNTED, p));
+        return Passed::Refused(fields::refuse(numbers::NOT_COUNTED, p));
     }
     Passed::To(q)
 }
@@ -29,7 +31,7 @@ fn figure_at(s: &[u8], p: usize, w: usize, counted: u64) -> Passed
 pub fn end_at(s: &[u8], p: usize, count: u64, sums: Sums) -> Passed
     ensures { λ r. ⌜ r ≡ ofRead passings (readAt (end (totalsOf count sums)) (now (s .entry)) p) ⌝ }
 {
-    let e2 = fields::fixed_at(s, p, &fields::LETTER_E);
+    let e2 = fields::fixed_at(s, p, &fixed::LETTER_E);
     let Passed::To(p3) = e2 else {
         return e2;
     };

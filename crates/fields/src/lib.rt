@@ -11,47 +11,8 @@ ghost use Rattle.rules.specs.Fields.{text27, rulesOfNames};
 ghost use Rattle.fields.specs.Answers.{refusalOf, ofField, passings, passedWhy, numbers, numberWhy, maybeNumbers, kinds, kindWhy};
 ghost use Rattle.fields.specs.Stretches.{widest, digitsOf, signsOf};
 
-// The numbers that a refusal gives back.
-pub const SHORT: u8 = 1;
-
-pub const NOT_FIXED: u8 = 2;
-
-pub const NO_DIGIT: u8 = 3;
-
-pub const NO_SIGN: u8 = 4;
-
-pub const NO_LENGTH: u8 = 5;
-
-pub const NO_MORE_PAYMENTS: u8 = 6;
-
-pub const ACCOUNTS_OVER: u8 = 7;
-
-pub const BANK_CODES_OVER: u8 = 8;
-
-pub const CENTS_OVER: u8 = 9;
-
-pub const NO_DATE: u8 = 10;
-
-pub const CONDITION: u8 = 11;
-
-pub const NO_KEY: u8 = 12;
-
-pub const NO_MARK: u8 = 13;
-
-pub const NOT_COUNTED: u8 = 14;
-
-pub const SURPLUS: u8 = 15;
-
-// The fixed bytes of A, C and E.
-pub const LENGTH_128: [u8; 4] = *b"0128";
-
-pub const LETTER_A: [u8; 1] = *b"A";
-
-pub const LETTER_C: [u8; 1] = *b"C";
-
-pub const LETTER_E: [u8; 1] = *b"E";
-
-pub const EURO: [u8; 1] = *b"1";
+pub mod fixed;
+pub mod numbers;
 
 // Why a file is refused: the number, and the first byte of the field.
 pub struct Refusal {
@@ -236,11 +197,11 @@ pub fn fixed_at(s: &[u8], p: usize, want: &[u8]) -> Passed
 {
     let w = want.len();
     if !whole(s.len(), p, w) {
-        return Passed::Refused(refuse(SHORT, p));
+        return Passed::Refused(refuse(numbers::SHORT, p));
     }
     let q = p + w;
     if !same_bytes(&s[p..q], want) {
-        return Passed::Refused(refuse(NOT_FIXED, p));
+        return Passed::Refused(refuse(numbers::NOT_FIXED, p));
     }
     Passed::To(q)
 }
@@ -250,11 +211,11 @@ fn fill_at(s: &[u8], p: usize, w: usize, b: u8) -> Passed
     ensures { λ r. ⌜ r ≡ ofField passings p (p + w) (lookAt (fixed (replicate w b)) (now (s .entry)) p) ⌝ }
 {
     if !whole(s.len(), p, w) {
-        return Passed::Refused(refuse(SHORT, p));
+        return Passed::Refused(refuse(numbers::SHORT, p));
     }
     let q = p + w;
     if !all_are(&s[p..q], b) {
-        return Passed::Refused(refuse(NOT_FIXED, p));
+        return Passed::Refused(refuse(numbers::NOT_FIXED, p));
     }
     Passed::To(q)
 }
@@ -289,12 +250,12 @@ pub fn number_at(s: &[u8], p: usize, w: usize) -> Number
 {
     let n = narrow(w);
     if !whole(s.len(), p, n) {
-        return Number::Refused(refuse(SHORT, p));
+        return Number::Refused(refuse(numbers::SHORT, p));
     }
     let q = p + n;
     let f = digits_of(&s[p..q]);
     let Digits::Are(v) = f else {
-        return Number::Refused(refuse(NO_DIGIT, p));
+        return Number::Refused(refuse(numbers::NO_DIGIT, p));
     };
     Number::Is(v, q)
 }
@@ -305,7 +266,7 @@ pub fn maybe_number_at(s: &[u8], p: usize, w: usize) -> MaybeNumber
 {
     let n = narrow(w);
     if !whole(s.len(), p, n) {
-        return MaybeNumber::Refused(refuse(SHORT, p));
+        return MaybeNumber::Refused(refuse(numbers::SHORT, p));
     }
     let q = p + n;
     if all_are(&s[p..q], b' ') {
@@ -313,7 +274,7 @@ pub fn maybe_number_at(s: &[u8], p: usize, w: usize) -> MaybeNumber
     }
     let f = digits_of(&s[p..q]);
     let Digits::Are(v) = f else {
-        return MaybeNumber::Refused(refuse(NO_DIGIT, p));
+        return MaybeNumber::Refused(refuse(numbers::NO_DIGIT, p));
     };
     MaybeNumber::Is(v, q)
 }
@@ -323,12 +284,12 @@ pub fn text_at(s: &[u8], p: usize) -> Passed
     ensures { λ r. ⌜ r ≡ ofField passings p (p + 27) (lookAt text27 (now (s .entry)) p) ⌝ }
 {
     if !whole(s.len(), p, 27) {
-        return Passed::Refused(refuse(SHORT, p));
+        return Passed::Refused(refuse(numbers::SHORT, p));
     }
     let q = p + 27;
     let f = signs_of(&s[p..q]);
     if !f.permitted {
-        return Passed::Refused(refuse(NO_SIGN, p));
+        return Passed::Refused(refuse(numbers::NO_SIGN, p));
     }
     Passed::To(q)
 }
@@ -338,15 +299,15 @@ pub fn name_at(s: &[u8], p: usize) -> Passed
     ensures { λ r. ⌜ r ≡ ofField passings p (p + 27) (fieldAt text27 rulesOfNames (now (s .entry)) p) ⌝ }
 {
     if !whole(s.len(), p, 27) {
-        return Passed::Refused(refuse(SHORT, p));
+        return Passed::Refused(refuse(numbers::SHORT, p));
     }
     let q = p + 27;
     let f = signs_of(&s[p..q]);
     if !f.permitted {
-        return Passed::Refused(refuse(NO_SIGN, p));
+        return Passed::Refused(refuse(numbers::NO_SIGN, p));
     }
     if f.blank {
-        return Passed::Refused(refuse(CONDITION, p));
+        return Passed::Refused(refuse(numbers::CONDITION, p));
     }
     Passed::To(q)
 }
@@ -356,7 +317,7 @@ pub fn kind_at(s: &[u8], p: usize) -> KindRead
     ensures { λ r. ⌜ r ≡ ofField kinds p (p + 2) (lookAt (choice 2 fileKinds) (now (s .entry)) p) ⌝ }
 {
     if !whole(s.len(), p, 2) {
-        return KindRead::Refused(refuse(SHORT, p));
+        return KindRead::Refused(refuse(numbers::SHORT, p));
     }
     let next = p + 1;
     let first = s[p];
@@ -365,7 +326,7 @@ pub fn kind_at(s: &[u8], p: usize) -> KindRead
     let customer = second == b'K';
     let named = (credit | (first == b'L')) & (customer | (second == b'B'));
     if !named {
-        return KindRead::Refused(refuse(NOT_FIXED, p));
+        return KindRead::Refused(refuse(numbers::NOT_FIXED, p));
     }
     KindRead::Is(
         FileKind {

@@ -16,6 +16,8 @@ use fields::KindRead;
 use fields::Number;
 use fields::Passed;
 use fields::Refusal;
+use fields::fixed;
+use fields::numbers;
 
 // What A tells, as far as the code keeps it: its texts stay in the file.
 pub struct Header {
@@ -87,7 +89,7 @@ fn sender_bank_at(s: &[u8], p: usize, kind: FileKind) -> Number
         return Number::Refused(a.why());
     };
     if kind.customer & (v != 0) {
-        return Number::Refused(fields::refuse(fields::CONDITION, p));
+        return Number::Refused(fields::refuse(numbers::CONDITION, p));
     }
     Number::Is(v, q)
 }
@@ -96,11 +98,11 @@ fn sender_bank_at(s: &[u8], p: usize, kind: FileKind) -> Number
 fn opening_at(s: &[u8], p: usize) -> OpeningRead
     ensures { λ r. ⌜ r ≡ ofRead openings (readAt opening (now (s .entry)) p) ⌝ }
 {
-    let a1 = fields::fixed_at(s, p, &fields::LENGTH_128);
+    let a1 = fields::fixed_at(s, p, &fixed::LENGTH_128);
     let Passed::To(p2) = a1 else {
         return OpeningRead::Refused(a1.why());
     };
-    let a2 = fields::fixed_at(s, p2, &fields::LETTER_A);
+    let a2 = fields::fixed_at(s, p2, &fixed::LETTER_A);
     let Passed::To(p3) = a2 else {
         return OpeningRead::Refused(a2.why());
     };
@@ -155,7 +157,7 @@ fn order_at(s: &[u8], p: usize, made: Day) -> OrderRead
     let Passed::To(p12) = a11c else {
         return OrderRead::Refused(a11c.why());
     };
-    let a12 = fields::fixed_at(s, p12, &fields::EURO);
+    let a12 = fields::fixed_at(s, p12, &fixed::EURO);
     let Passed::To(q) = a12 else {
         return OrderRead::Refused(a12.why());
     };

@@ -9,6 +9,7 @@ ghost use Rattle.rules.specs.Fields.{text27, roomAfter, markOk, markRules, clos
 ghost use Rattle.fields.specs.Answers.{ofField, ofRead, passings, numbers};
 use fields::Number;
 use fields::Passed;
+use fields::numbers;
 
 // How many parts may still follow a part of this mark, where room parts could follow the one before it.
 pub fn room_after(mark: u64, room: u64) -> u64
@@ -80,10 +81,10 @@ pub fn mark_in(part: &[u8], room: u64, left: u64) -> Number
         return Number::Refused(read.why());
     };
     if !mark_ok(room, mark) {
-        return Number::Refused(fields::refuse(fields::NO_MARK, 0));
+        return Number::Refused(fields::refuse(numbers::NO_MARK, 0));
     }
     if left > room_after(mark, room) {
-        return Number::Refused(fields::refuse(fields::NO_MARK, 0));
+        return Number::Refused(fields::refuse(numbers::NO_MARK, 0));
     }
     Number::Is(mark, q)
 }

@@ -12,6 +12,8 @@ use fields::FileKind;
 use fields::Number;
 use fields::Passed;
 use fields::Refusal;
+use fields::fixed;
+use fields::numbers;
 use sums::AccountSum;
 use sums::AccountsRead;
 use sums::BankCodeSum;
@@ -70,7 +72,7 @@ fn bank_code_into(s: &[u8], p: usize, sum: BankCodeSum) -> BankCodesRead
         return BankCodesRead::Refused(a.why());
     };
     if !bank_code_ok(v) {
-        return BankCodesRead::Refused(fields::refuse(fields::CONDITION, p));
+        return BankCodesRead::Refused(fields::refuse(numbers::CONDITION, p));
     }
     sum.add(v, p, q)
 }
@@ -84,7 +86,7 @@ fn account_into(s: &[u8], p: usize, sum: AccountSum) -> AccountsRead
         return AccountsRead::Refused(a.why());
     };
     if v == 0 {
-        return AccountsRead::Refused(fields::refuse(fields::CONDITION, p));
+        return AccountsRead::Refused(fields::refuse(numbers::CONDITION, p));
     }
     sum.add(v, p, q)
 }
@@ -98,7 +100,7 @@ fn customer_at(s: &[u8], p: usize) -> Number
         return Number::Refused(a.why());
     };
     if !customer_ok(v) {
-        return Number::Refused(fields::refuse(fields::CONDITION, p));
+        return Number::Refused(fields::refuse(numbers::CONDITION, p));
     }
     Number::Is(v, q)
 }
@@ -112,7 +114,7 @@ fn key_at(s: &[u8], p: usize, kind: FileKind) -> Number
         return Number::Refused(a.why());
     };
     if !key_ok(kind, v) {
-        return Number::Refused(fields::refuse(fields::NO_KEY, p));
+        return Number::Refused(fields::refuse(numbers::NO_KEY, p));
     }
     Number::Is(v, q)
 }
@@ -126,7 +128,7 @@ fn bank_code_at(s: &[u8], p: usize) -> Number
         return Number::Refused(a.why());
     };
     if !bank_code_ok(v) {
-        return Number::Refused(fields::refuse(fields::CONDITION, p));
+        return Number::Refused(fields::refuse(numbers::CONDITION, p));
     }
     Number::Is(v, q)
 }
@@ -140,7 +142,7 @@ fn account_at(s: &[u8], p: usize) -> Number
         return Number::Refused(a.why());
     };
     if v == 0 {
-        return Number::Refused(fields::refuse(fields::CONDITION, p));
+        return Number::Refused(fields::refuse(numbers::CONDITION, p));
     }
     Number::Is(v, q)
 }
@@ -154,7 +156,7 @@ fn cents_into(s: &[u8], p: usize, sum: CentSum) -> CentsRead
         return CentsRead::Refused(a.why());
     };
     if v == 0 {
-        return CentsRead::Refused(fields::refuse(fields::CONDITION, p));
+        return CentsRead::Refused(fields::refuse(numbers::CONDITION, p));
     }
     sum.add(v, p, q)
 }
@@ -168,7 +170,7 @@ fn fitting_count_at(s: &[u8], p: usize, l: u64) -> Number
         return Number::Refused(a.why());
     };
     if 187 + 29 * k != l {
-        return Number::Refused(fields::refuse(fields::CONDITION, p));
+        return Number::Refused(fields::refuse(numbers::CONDITION, p));
     }
     Number::Is(k, q)
 }
@@ -183,7 +185,7 @@ pub fn receiver_at(
 ) -> ReceiverRead
     ensures { λ r. ⌜ r ≡ ofRead (receiversOn (accounts .0) (banks .0)) (readAt (receiver (lettersOf kind) (accounts .0) (banks .0)) (now (s .entry)) p) ⌝ }
 {
-    let c2 = fields::fixed_at(s, p, &fields::LETTER_C);
+    let c2 = fields::fixed_at(s, p, &fixed::LETTER_C);
     let Passed::To(p3) = c2 else {
         return ReceiverRead::Refused(c2.why());
     };
@@ -264,7 +266,7 @@ pub fn names_at(s: &[u8], p: usize) -> Passed
 pub fn part_count_at(s: &[u8], p: usize, l: u64) -> Number
     ensures { λ r. ⌜ r ≡ ofRead numbers (readAt (partCount l) (now (s .entry)) p) ⌝ }
 {
-    let c17a = fields::fixed_at(s, p, &fields::EURO);
+    let c17a = fields::fixed_at(s, p, &fixed::EURO);
     let Passed::To(p17b) = c17a else {
         return Number::Refused(c17a.why());
     };

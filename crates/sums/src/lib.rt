@@ -2,6 +2,7 @@
 ghost use mathlib.Core.Path.{_≡_};
 ghost use Rattle.sums.specs.Sums.{accountsAdded, accountsWhy, bankCodesAdded, bankCodesWhy, centsAdded, centsWhy};
 use fields::Refusal;
+use fields::numbers;
 
 // 17 digits, and 13.
 const MOST_OF_17: u64 = 99_999_999_999_999_999;
@@ -49,10 +50,10 @@ impl AccountSum {
     {
         let sum = self.0;
         if v > MOST_OF_17 {
-            return AccountsRead::Refused(fields::refuse(fields::ACCOUNTS_OVER, p));
+            return AccountsRead::Refused(fields::refuse(numbers::ACCOUNTS_OVER, p));
         }
         if sum > MOST_OF_17 - v {
-            return AccountsRead::Refused(fields::refuse(fields::ACCOUNTS_OVER, p));
+            return AccountsRead::Refused(fields::refuse(numbers::ACCOUNTS_OVER, p));
         }
         AccountsRead::Is(AccountSum(sum + v), q)
     }
@@ -65,10 +66,10 @@ impl BankCodeSum {
     {
         let sum = self.0;
         if v > MOST_OF_17 {
-            return BankCodesRead::Refused(fields::refuse(fields::BANK_CODES_OVER, p));
+            return BankCodesRead::Refused(fields::refuse(numbers::BANK_CODES_OVER, p));
         }
         if sum > MOST_OF_17 - v {
-            return BankCodesRead::Refused(fields::refuse(fields::BANK_CODES_OVER, p));
+            return BankCodesRead::Refused(fields::refuse(numbers::BANK_CODES_OVER, p));
         }
         BankCodesRead::Is(BankCodeSum(sum + v), q)
     }
@@ -81,10 +82,10 @@ impl CentSum {
     {
         let sum = self.0;
         if v > MOST_CENTS {
-            return CentsRead::Refused(fields::refuse(fields::CENTS_OVER, p));
+            return CentsRead::Refused(fields::refuse(numbers::CENTS_OVER, p));
         }
         if sum > MOST_CENTS - v {
-            return CentsRead::Refused(fields::refuse(fields::CENTS_OVER, p));
+            return CentsRead::Refused(fields::refuse(numbers::CENTS_OVER, p));
         }
         CentsRead::Is(CentSum(sum + v), q)
     }

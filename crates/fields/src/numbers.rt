@@ -1,0 +1,46 @@
+// The numbers that a refusal gives back; 0 is no refusal.
+
+// The file ends before the field is whole.
+pub const SHORT: u8 = 1;
+
+// Fixed bytes, blanks or zeros are not so, or A3 is none of the four.
+pub const NOT_FIXED: u8 = 2;
+
+// A byte of a digit field is no digit.
+pub const NO_DIGIT: u8 = 3;
+
+// A byte of a text is no permitted sign.
+pub const NO_SIGN: u8 = 4;
+
+// The first field after A or a C is neither E's length after a C, nor a length of C.
+pub const NO_LENGTH: u8 = 5;
+
+// No further C may begin: 9,999,999 have been read.
+pub const NO_MORE_PAYMENTS: u8 = 6;
+
+// C5 takes the sum of account numbers above 17 digits.
+pub const ACCOUNTS_OVER: u8 = 7;
+
+// C4 takes the sum of bank codes above 17 digits.
+pub const BANK_CODES_OVER: u8 = 8;
+
+// C12 takes the sum of cents above 13 digits, or no further C may begin because the sum is at its top.
+pub const CENTS_OVER: u8 = 9;
+
+// A7 or A11b is no date, or A11b is outside its span.
+pub const NO_DATE: u8 = 10;
+
+// Another named condition of a field does not hold.
+pub const CONDITION: u8 = 11;
+
+// C7a is no key of this kind of file.
+pub const NO_KEY: u8 = 12;
+
+// A mark breaks the rules of marks.
+pub const NO_MARK: u8 = 13;
+
+// A figure of E is not the counted one.
+pub const NOT_COUNTED: u8 = 14;
+
+// Bytes follow E.
+pub const SURPLUS: u8 = 15;
