@@ -1,8 +1,12 @@
 -- fields::name_at meets its contract: whole, then every sign, then one that is no blank.
 -- Assumes nothing.
+use Prim.Native.Nat.{_+_}
 use native.Mathlib.Nat.{add-sub-cancel-left}
 use native.Mathlib.Omega.{arith}
-use mathlib.Core.Path.{_∙_, ap, refl, sym}
+use mathlib.Core.Bool.{true}
+use mathlib.Core.Path.{_∙_, _≡_, ap, refl, sym}
+use lib.Dec.{leb}
+use lib.ListN.{length}
 use borrow.Author.Needs.{needs}
 use borrow.Author.Tests.{not-false, not-true}
 use Rattle.form.specs.Reader.{not-sign, short}
@@ -14,6 +18,10 @@ use Rattle.fields.proofs.LeafLaws.{ends-inside, field-broken, field-fai
 use Rattle.fields.specs.declared.Signs.{Signs}
 use Rattle.fields.proofs.name_at.Statement.{statement}
 use Rattle.fields.proofs.name_at.Tie as tie
+
+-- the field is whole
+whole : (c : tie.Else1) → let a = c .before .before .before .args in leb (a .p + 27) (length (a .s .now)) ≡ true
+whole c = sym (c .before .whole .ensures) ∙ not-false _ (c .if1 .left)
 
 whole-requires : tie.Need-whole-requires
 whole-requires c κs = search needs
@@ -28,7 +36,7 @@ returns c =
     rw (c .refuse .ensures) (field-fails text27 passings rulesOfNames (a .s .now) (a .p) _ (record { reason = short; lack = not-whole text27 (a .s .now) (a .p) 27 refl (sym (c .before .before .whole .ensures) ∙ not-true _ (c .before .if1 .taken)); refusal = refl }))
 
 add-q : tie.Need-add-q
-add-q c = let a = c .before .before .before .args in omega (arith, ends-inside (a .s .now) (a .p) 27 (sym (c .before .whole .ensures) ∙ not-false _ (c .if1 .left)))
+add-q c = let a = c .before .before .before .args in omega (arith, ends-inside (a .s .now) (a .p) 27 (whole c))
 
 sub-signs-of : tie.Need-sub-signs-of
 sub-signs-of c = search needs
@@ -37,7 +45,7 @@ part-signs-of-start : tie.Need-part-signs-of-start
 part-signs-of-start c = search needs
 
 part-signs-of-end : tie.Need-part-signs-of-end
-part-signs-of-end c = let a = c .before .before .before .args in omega (arith, ends-inside (a .s .now) (a .p) 27 (sym (c .before .whole .ensures) ∙ not-false _ (c .if1 .left)))
+part-signs-of-end c = let a = c .before .before .before .args in omega (arith, ends-inside (a .s .now) (a .p) 27 (whole c))
 
 signs-of-requires : tie.Need-signs-of-requires
 signs-of-requires c κs = search needs
@@ -50,7 +58,7 @@ unfolding numberOf signsOf
 returns-2 c =
     let a = c .before .before .before .before .before .before .before .before .args in
     let signs = ap (λ (x : Signs). x .permitted) (rw add-sub-cancel-left at (c .before .before .before .signs-of .ensures)) in
-    let lack = text-not (a .s .now) (a .p) (sym (c .before .before .before .before .before .before .whole .ensures) ∙ not-false _ (c .before .before .before .before .before .if1 .left)) (sym signs ∙ not-true (c .before .before .before .signs-of .result .permitted) (c .before .if2 .taken)) in
+    let lack = text-not (a .s .now) (a .p) (whole (c .before .before .before .before .before)) (sym signs ∙ not-true (c .before .before .before .signs-of .result .permitted) (c .before .if2 .taken)) in
     rw (c .refuse2 .ensures) (field-fails text27 passings rulesOfNames (a .s .now) (a .p) _ (record { reason = not-sign; lack = lack; refusal = refl }))
 
 refuse-requires-3 : tie.Need-refuse-requires-3
@@ -62,7 +70,7 @@ returns-3 c =
     let a = c .before .before .before .before .before .before .before .before .before .args in
     let signs = ap (λ (x : Signs). x .permitted) (rw add-sub-cancel-left at (c .before .before .before .before .signs-of .ensures)) in
     let blank = ap (λ (x : Signs). x .blank) (rw add-sub-cancel-left at (c .before .before .before .before .signs-of .ensures)) in
-    let content = text-has (a .s .now) (a .p) (sym (c .before .before .before .before .before .before .before .whole .ensures) ∙ not-false _ (c .before .before .before .before .before .before .if1 .left)) (sym signs ∙ not-false (c .before .before .before .before .signs-of .result .permitted) (c .before .before .if2 .left)) in
+    let content = text-has (a .s .now) (a .p) (whole (c .before .before .before .before .before .before)) (sym signs ∙ not-false (c .before .before .before .before .signs-of .result .permitted) (c .before .before .if2 .left)) in
     rw (c .refuse3 .ensures) (field-broken text27 passings rulesOfNames (a .s .now) (a .p) _ content (rw (← blank, c .before .if3 .taken)))
 
 returns-4 : tie.Need-returns-4
@@ -71,7 +79,7 @@ returns-4 c =
     let a = c .before .before .before .before .before .before .before .before .args in
     let signs = ap (λ (x : Signs). x .permitted) (rw add-sub-cancel-left at (c .before .before .before .signs-of .ensures)) in
     let blank = ap (λ (x : Signs). x .blank) (rw add-sub-cancel-left at (c .before .before .before .signs-of .ensures)) in
-    let content = text-has (a .s .now) (a .p) (sym (c .before .before .before .before .before .before .whole .ensures) ∙ not-false _ (c .before .before .before .before .before .if1 .left)) (sym signs ∙ not-false (c .before .before .before .signs-of .result .permitted) (c .before .if2 .left)) in
+    let content = text-has (a .s .now) (a .p) (whole (c .before .before .before .before .before)) (sym signs ∙ not-false (c .before .before .before .signs-of .result .permitted) (c .before .if2 .left)) in
     field-holds text27 passings rulesOfNames (a .s .now) (a .p) _ content (rw (← blank, c .if3 .left))
 
 pub name-at-spec : {M : Type 1} → statement M

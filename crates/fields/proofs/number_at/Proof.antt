@@ -1,8 +1,12 @@
 -- fields::number_at meets its contract: whole, then every digit.
 -- Assumes nothing.
+use Prim.Native.Nat.{_+_}
 use native.Mathlib.Nat.{add-sub-cancel-left}
 use native.Mathlib.Omega.{arith}
-use mathlib.Core.Path.{_∙_, refl, sym}
+use mathlib.Core.Bool.{true}
+use mathlib.Core.Path.{_∙_, _≡_, refl, sym}
+use lib.Dec.{leb}
+use lib.ListN.{length}
 use borrow.Author.Needs.{needs}
 use borrow.Author.Tests.{not-false, not-true}
 use Rattle.form.specs.Kind.{digits}
@@ -13,6 +17,10 @@ use Rattle.fields.proofs.DigitLaws.{digits-are, digits-not}
 use Rattle.fields.proofs.LeafLaws.{ends-inside, leaf-right, leaf-short, leaf-wrong}
 use Rattle.fields.proofs.number_at.Statement.{statement}
 use Rattle.fields.proofs.number_at.Tie as tie
+
+-- the field is whole
+whole : (c : tie.Else1) → let a = c .before .before .before .before .args in leb (a .p + c .before .before .narrow .result) (length (a .s .now)) ≡ true
+whole c = sym (c .before .whole .ensures) ∙ not-false _ (c .if1 .left)
 
 narrow-requires : tie.Need-narrow-requires
 narrow-requires c κs = search needs
@@ -29,7 +37,7 @@ returns c =
     rw (c .refuse .ensures, ← c .before .before .before .narrow .ensures) (leaf-short (digits (c .before .before .before .narrow .result)) numbers (a .s .now) (a .p) (c .before .before .before .narrow .result) _ refl (sym (c .before .before .whole .ensures) ∙ not-true _ (c .before .if1 .taken)))
 
 add-q : tie.Need-add-q
-add-q c = let a = c .before .before .before .before .args in omega (arith, ends-inside (a .s .now) (a .p) (c .before .before .narrow .result) (sym (c .before .whole .ensures) ∙ not-false _ (c .if1 .left)))
+add-q c = let a = c .before .before .before .before .args in omega (arith, ends-inside (a .s .now) (a .p) (c .before .before .narrow .result) (whole c))
 
 sub-digits-of : tie.Need-sub-digits-of
 sub-digits-of c = search needs
@@ -38,7 +46,7 @@ part-digits-of-start : tie.Need-part-digits-of-start
 part-digits-of-start c = search needs
 
 part-digits-of-end : tie.Need-part-digits-of-end
-part-digits-of-end c = let a = c .before .before .before .before .args in omega (arith, ends-inside (a .s .now) (a .p) (c .before .before .narrow .result) (sym (c .before .whole .ensures) ∙ not-false _ (c .if1 .left)))
+part-digits-of-end c = let a = c .before .before .before .before .args in omega (arith, ends-inside (a .s .now) (a .p) (c .before .before .narrow .result) (whole c))
 
 digits-of-requires : tie.Need-digits-of-requires
 digits-of-requires c κs = search needs
@@ -59,7 +67,7 @@ returns-2 c =
     let n = c .before .before .before .before .before .before .before .narrow .result in
     let told = rw add-sub-cancel-left at (c .before .before .before .digits-of .ensures) in
     rw (c .refuse2 .ensures, ← c .before .before .before .before .before .before .before .narrow .ensures)
-    (leaf-wrong (digits n) numbers (a .s .now) (a .p) n _ refl (sym (c .before .before .before .before .before .before .whole .ensures) ∙ not-false _ (c .before .before .before .before .before .if1 .left)) not-digit (digits-not _ n (sym told ∙ c .before .enum-told .given .1)))
+    (leaf-wrong (digits n) numbers (a .s .now) (a .p) n _ refl (whole (c .before .before .before .before .before)) not-digit (digits-not _ n (sym told ∙ c .before .enum-told .given .1)))
 
 returns-3 : tie.Need-returns-3
 returns-3 c =
@@ -67,7 +75,7 @@ returns-3 c =
     let n = c .before .before .before .before .before .before .before .narrow .result in
     let told = rw add-sub-cancel-left at (c .before .before .before .digits-of .ensures) in
     rw (← c .before .before .before .before .before .before .before .narrow .ensures)
-    (leaf-right (digits n) numbers (a .s .now) (a .p) n _ refl (sym (c .before .before .before .before .before .before .whole .ensures) ∙ not-false _ (c .before .before .before .before .before .if1 .left)) _ (digits-are _ n (sym told ∙ c .before .f .given .1)))
+    (leaf-right (digits n) numbers (a .s .now) (a .p) n _ refl (whole (c .before .before .before .before .before)) _ (digits-are _ n (sym told ∙ c .before .f .given .1)))
 
 pub number-at-spec : {M : Type 1} → statement M
 number-at-spec =
