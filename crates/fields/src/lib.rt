@@ -173,16 +173,19 @@ struct Signs {
     blank: bool,
 }
 
+// The 27 bytes are tested in two halves of 16, which share five: so each half is one step of a processor's vector unit.
 fn signs_of(f: &[u8]) -> Signs
+    requires { ⌜ length (now f) ≡ 27 ⌝ }
     ensures { λ r. ⌜ r ≡ signsOf (now (f .entry)) ⌝ }
 {
     let mut permitted = true;
     let mut blank = true;
     let mut i = 0;
-    while i < f.len() {
+    while i < 16 {
         let b = f[i];
-        permitted = permitted & is_sign(b);
-        blank = blank & (b == b' ');
+        let c = f[i + 11];
+        permitted = permitted & (is_sign(b) & is_sign(c));
+        blank = blank & ((b == b' ') & (c == b' '));
         i += 1;
     }
     Signs {

@@ -1,18 +1,23 @@
 -- A part read as a file of its own, the blanks that close a section, and the tree of the parts opened one part at a time.
-use Prim.Native.Nat.{ℕ, zero, suc, _+_, _-_, _≤_, _<_}
+use Prim.Native.Nat.{ℕ, zero, suc, _+_, _-_, _*_, _%_, _≤_, _<_}
 use native.Mathlib.Nat.{add-zero}
 use native.Mathlib.Omega.{arith}
 use mathlib.Core.Path.{_≡_, refl, sym, ap, _∙_}
+use mathlib.Core.Logic.{inl, inr}
+use mathlib.Core.Bool.{Bool, true, false, _&&_, _||_, cond}
 use mathlib.Core.List.{List, [], _∷_}
 use lib.ListN.{length, take, drop, length-take, length-drop, length-replicate}
 use lib.Seq.{drop-drop, take-take}
+use lib.Dec.{leb, eqb, eqb→eq}
+use borrow.Author.Tests.{leb-true, ne-eqb}
 use Rattle.form.specs.Kind.{Kind, fixed, digits, width, blanks}
 use Rattle.form.specs.Form.{Rule, Form, ret, get, any, _>>=_, _>>_}
 use Rattle.form.specs.Reader.{Look}
 use Rattle.form.specs.Place.{lookAt, fieldAt, Read, done, readAt}
+use Rattle.form.proofs.BoolLaws.{T-of, or-cases}
 use Rattle.rules.specs.Values.{Part}
 use Rattle.rules.specs.Writing.{section, toSectionEnd, toNextPart}
-use Rattle.rules.specs.Fields.{Name, mark, words, text27, roomAfter, markRules, closingBlanks, parts}
+use Rattle.rules.specs.Fields.{Name, mark, words, text27, roomAfter, markOk, markRules, closingBlanks, parts}
 use Rattle.fields.specs.declared.Refusal.{Refusal}
 use Rattle.fields.specs.declared.Passed.{Passed}
 use Rattle.fields.specs.declared.Passed.the-variants as passed
@@ -76,6 +81,48 @@ module _ (n : ℕ) (f : List ℕ) (p : ℕ) where
   pub closing-some : (w : ℕ) → (w ≡ 0 → ⊥) → ofField passings p (p + w) (lookAt (fixed (blanks w)) f p) ≡ ofRead passings (readAt (closingBlanks n w) f p)
   closing-some zero e = absurd (e refl)
   closing-some (suc w) e = rw (length-replicate {A = ℕ} (suc w) 32) at (last {t = passings} {f = f} passings (λ v q. refl) (λ x. refl) (start (closingBlanks n (suc w)) p))
+
+-- how many they are
+module _ (i : ℕ) where
+  pub eleven : i ≡ 2 → toNextPart i ≡ 11
+  unfolding toNextPart toSectionEnd
+  eleven e = rw e
+
+  pub twelve : eqb i 6 || (eqb i 10 || eqb i 14) ≡ true → toNextPart i ≡ 12
+  unfolding toNextPart toSectionEnd
+  twelve e =
+      elim (or-cases (eqb i 6) (eqb i 10 || eqb i 14) (T-of e)) [
+        | inl h ↦ rw (eqb→eq i 6 h)
+        | inr h ↦ elim (or-cases (eqb i 10) (eqb i 14) h) [ inl k ↦ rw (eqb→eq i 10 k) | inr k ↦ rw (eqb→eq i 14 k) ]
+      ]
+
+  pub none-between : (i ≡ 2 → ⊥) → eqb i 6 || (eqb i 10 || eqb i 14) ≡ false → toNextPart i ≡ 0
+  unfolding toNextPart
+  none-between n e = rw (ne-eqb i 2 n, e)
+
+  pub some-behind : toSectionEnd i ≡ 0 → ⊥
+  unfolding toSectionEnd
+  some-behind e = by (leb i 2) refl e
+    where
+      by : (b : Bool) → leb i 2 ≡ b → cond b (69 - 29 * i) (128 - 29 * ((i - 3) % 4 + 1)) ≡ 0 → ⊥
+      by true h e = let l = leb-true i 2 h in omega arith
+      by false h e = omega arith
+
+-- ---- marks, one after another
+
+or-none : (b : Bool) → b ≡ b || false
+or-none true = refl
+or-none false = refl
+
+module _ (room m : ℕ) where
+  pub mark-01 : m ≡ 1 → eqb room 15 ≡ markOk room m
+  mark-01 e = rw e (or-none (eqb room 15))
+
+  pub mark-02 : m ≡ 2 → leb 2 room ≡ markOk room m
+  mark-02 e = rw e (or-none (leb 2 room))
+
+  pub mark-03 : (m ≡ 1 → ⊥) → (m ≡ 2 → ⊥) → eqb m 3 && leb 1 room ≡ markOk room m
+  mark-03 d e = rw (ne-eqb m 1 d, ne-eqb m 2 e)
 
 -- ---- the parts, one opened
 

@@ -34,7 +34,13 @@ pub fn room_after(mark: u64, room: u64) -> u64
 pub fn mark_ok(room: u64, mark: u64) -> bool
     ensures { λ r. ⌜ r ≡ markOk room mark ⌝ }
 {
-    ((mark == 1) & (room == 15)) | (((mark == 2) & (room >= 2)) | ((mark == 3) & (room >= 1)))
+    if mark == 1 {
+        return room == 15;
+    }
+    if mark == 2 {
+        return room >= 2;
+    }
+    (mark == 3) & (room >= 1)
 }
 
 // The blanks from the end of part i to the end of its section.
@@ -45,16 +51,6 @@ fn to_section_end(i: u64) -> usize
         return (69 - 29 * i) as usize;
     }
     (128 - 29 * ((i - 3) % 4 + 1)) as usize
-}
-
-// The blanks between part i and a next one.
-fn to_next_part(i: u64) -> usize
-    ensures { λ r. ⌜ r ≡ toNextPart i ⌝ }
-{
-    if (i == 2) | ((i == 6) | ((i == 10) | (i == 14))) {
-        return to_section_end(i);
-    }
-    0
 }
 
 // The bytes of the part at p: 29, or as many as the file still has.
@@ -96,28 +92,24 @@ pub fn words_in(part: &[u8]) -> Passed
     fields::text_at(part, 2)
 }
 
-// w blanks that close a section; no field where w is 0.
-fn closing_at(s: &[u8], p: usize, w: usize) -> Passed
-    ensures { λ r. ⌜ ((n : ℕ) → r ≡ ofRead passings (readAt (closingBlanks n w) (now (s .entry)) p)) ⌝ }
-{
-    if w == 0 {
-        return Passed::To(p);
-    }
-    fields::blanks_at(s, p, w)
-}
-
-// The blanks behind part i, before a next one.
+// The blanks behind part i, before a next one: 11 behind the second part, 12 behind the others that fill their section, else none.
 fn closing_before(s: &[u8], p: usize, i: u64) -> Passed
     ensures { λ r. ⌜ r ≡ ofRead passings (readAt (closingBlanks (section i) (toNextPart i)) (now (s .entry)) p) ⌝ }
 {
-    closing_at(s, p, to_next_part(i))
+    if i == 2 {
+        return fields::blanks_at(s, p, 11);
+    }
+    if (i == 6) | ((i == 10) | (i == 14)) {
+        return fields::blanks_at(s, p, 12);
+    }
+    Passed::To(p)
 }
 
 // The blanks behind the last part, i.
 fn closing_behind(s: &[u8], p: usize, i: u64) -> Passed
     ensures { λ r. ⌜ r ≡ ofRead passings (readAt (closingBlanks (section i) (toSectionEnd i)) (now (s .entry)) p) ⌝ }
 {
-    closing_at(s, p, to_section_end(i))
+    fields::blanks_at(s, p, to_section_end(i))
 }
 
 // The k parts of a payment from at on, with the blanks that close its sections.

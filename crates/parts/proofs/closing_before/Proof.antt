@@ -1,17 +1,28 @@
--- parts::closing_before meets its contract: the blanks before a next part.
+-- parts::closing_before meets its contract: 11 blanks, 12, or none.
 -- Assumes nothing.
+use native.Mathlib.Omega.{arith}
+use mathlib.Core.Path.{_∙_}
 use borrow.Author.Needs.{needs}
+use Rattle.rules.specs.Writing.{section, toNextPart}
+use Rattle.parts.proofs.Laws.{closing-none, closing-some, eleven, none-between, twelve}
 use Rattle.parts.proofs.closing_before.Statement.{statement}
 use Rattle.parts.proofs.closing_before.Tie as tie
 
-to-next-part-requires : tie.Need-to-next-part-requires
-to-next-part-requires c κs = search needs
-
-closing-at-requires : tie.Need-closing-at-requires
-closing-at-requires c κs = search needs
+blanks-at-requires : tie.Need-blanks-at-requires
+blanks-at-requires c κs = search needs
 
 returns : tie.Need-returns
-returns c = rw (← c .before .to-next-part .ensures) (c .closing-at .ensures _)
+returns c = let a = c .before .before .before .args in rw (eleven (a .i) (c .before .if1 .taken)) (c .blanks-at .ensures ∙ closing-some (section (a .i)) _ _ 11 (λ e. omega arith))
+
+blanks-at-requires-2 : tie.Need-blanks-at-requires-2
+blanks-at-requires-2 c κs = search needs
+
+returns-2 : tie.Need-returns-2
+returns-2 c = let a = c .before .before .before .before .args in rw (twelve (a .i) (c .before .if2 .taken)) (c .blanks-at2 .ensures ∙ closing-some (section (a .i)) _ _ 12 (λ e. omega arith))
+
+returns-3 : tie.Need-returns-3
+returns-3 c = let a = c .before .before .before .args in closing-none (section (a .i)) _ _ (toNextPart (a .i)) (none-between (a .i) (c .before .if1 .left) (c .if2 .left))
 
 pub closing-before-spec : {M : Type 1} → statement M
-closing-before-spec = tie.close (tie.spec to-next-part-requires closing-at-requires returns)
+closing-before-spec =
+    tie.close (tie.spec blanks-at-requires returns blanks-at-requires-2 returns-2 returns-3)
