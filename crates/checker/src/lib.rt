@@ -30,6 +30,7 @@ pub struct Checked {
     pub sums: Sums,
 }
 
+// A refused file has no figures.
 fn refused(why: Refusal) -> Checked
     ensures { λ r. ⌜ r ≡ refusedWith why ⌝ }
 {
@@ -94,6 +95,7 @@ fn ended(s: &[u8], p: usize, count: u64, sums: Sums) -> Checked
     }
 }
 
+// The answer to a file, whatever its bytes: accepted with its figures, or refused with one number and one place.
 pub fn check(s: &[u8]) -> Checked
     ensures { λ r. ⌜ r ≡ checkedOf (outcome (answer (now (s .entry)))) ⌝ }
 {

@@ -55,6 +55,7 @@ pub enum KindRead {
     Is(FileKind, usize),
 }
 
+// The one place where a refusal is made.
 pub fn refuse(number: u8, place: usize) -> Refusal
     ensures { λ r. ⌜ r ≡ refusalOf number place ⌝ }
 {
@@ -134,12 +135,13 @@ fn all_are(f: &[u8], b: u8) -> bool
     all
 }
 
-// The number that digits spell, at most 17 of them.
+// The number that digits spell.
 enum Digits {
     Are(u64),
     Not,
 }
 
+// At most 17 digits. A byte less the digit 0, in a byte's arithmetic, is above 9 where it is no digit.
 fn digits_of(f: &[u8]) -> Digits
     requires { ⌜ length (now f) ≤ widest ⌝ }
     ensures { λ r. ⌜ r ≡ digitsOf (now (f .entry)) ⌝ }
@@ -157,6 +159,7 @@ fn digits_of(f: &[u8]) -> Digits
     Digits::Are(v)
 }
 
+// Whether b may stand in a text: blank, $ to &, * to 9, A to ] (the capitals and three umlauts), ~ (the sharp s).
 fn is_sign(b: u8) -> bool
     ensures { λ r. ⌜ r ≡ sign b ⌝ }
 {
