@@ -25,8 +25,7 @@ use Rattle.fields.specs.declared.Passed.{Passed}
 use Rattle.fields.specs.declared.Passed.the-variants as passed
 use Rattle.fields.specs.Answers.{refusalOf, ofRead, passings, passedWhy}
 use Rattle.fields.proofs.WalkLaws.{Fails, Walk, past-ruled, stopped-ruled, halts, retold}
-use Rattle.fields.proofs.AnswerLaws.{passings-told}
-use Rattle.parts.proofs.Laws.{passed-form}
+use Rattle.fields.proofs.AnswerLaws.{passings-told, passed-form}
 use Rattle.checker.specs.declared.Checked.{Checked}
 use Rattle.checker.specs.Checking.{checkedOf, refusedWith, acceptedWith, ifOver, together, restOn, documents}
 

@@ -1,13 +1,13 @@
 -- What each leaf's answers tell: a number with the place behind it, a place alone, a kind of file.
 use Prim.Native.Nat.{ℕ, _+_}
 use native.Mathlib.Omega.{arith}
-use mathlib.Core.Path.{_≡_, refl, sym, ap, _∙_}
+use mathlib.Core.Path.{_≡_, refl, sym, ap, ap₂, _∙_}
 use mathlib.Core.List.{List, []}
 use mathlib.Core.Option.{Option, none, some}
 use Rattle.form.specs.Kind.{Kind, Value, width}
 use Rattle.form.specs.Form.{Rule, Form, field}
 use Rattle.form.specs.Reader.{Look, has, lacks}
-use Rattle.form.specs.Place.{lookAt, fieldAt}
+use Rattle.form.specs.Place.{lookAt, fieldAt, Read, done}
 use Rattle.rules.specs.Fields.{Name}
 use Rattle.fields.specs.declared.Refusal.{Refusal}
 use Rattle.fields.specs.declared.Passed.{Passed}
@@ -19,8 +19,8 @@ use Rattle.fields.specs.declared.MaybeNumber.the-variants as maybe
 use Rattle.fields.specs.declared.FileKind.{FileKind}
 use Rattle.fields.specs.declared.KindRead.{KindRead}
 use Rattle.fields.specs.declared.KindRead.the-variants as kind
-use Rattle.fields.specs.Answers.{Telling, ofField, passings, passedWhy, numbers, numberWhy, maybeNumbers, kindOf, kinds, kindWhy}
-use Rattle.fields.proofs.WalkLaws.{Told, Fails, stands, Walk, On, past, past-ruled, stop, stop-ruled}
+use Rattle.fields.specs.Answers.{Telling, ofField, ofRead, passings, passedWhy, numbers, numberWhy, maybeNumbers, kindOf, kinds, kindWhy}
+use Rattle.fields.proofs.WalkLaws.{Told, Fails, stands, Walk, On, past, past-ruled, stop, stop-ruled, reads}
 
 pub zero-one : _≡_ {A = ℕ} 0 1 → ⊥
 zero-one e = omega arith
@@ -99,3 +99,22 @@ module _ {A R : Type 0} {t : Telling A R} {f : List ℕ} {g : R} {ν : Name} {κ
 
     pub pass-ruled-stop : (n : ℕ) {x : Refusal} → a ≡ ofField passings p n (fieldAt κ rs f p) → a ≡ passed.Refused x → t .refuses x ≡ g
     pass-ruled-stop n told given = stop-ruled passings-told n w told given (sym (ap passedWhy given))
+
+-- ---- a form that another reader has read
+
+-- and of which nothing is kept
+pub passed-form : {B : Type 0} {a : Passed} (x : Read Name B) → a ≡ ofRead passings x → {q : ℕ} → a ≡ passed.To q → (b : B) × (x ≡ done b q)
+passed-form x told {q} given =
+    let s = reads passings-told x told (passed.To q) (λ r e. zero-one cc) given in
+    let e = s .given in
+    let i : s .place ≡ q = cc in
+    (s .value, s .done ∙ ap (done (s .value)) i)
+
+-- and which says a number
+pub number-form : (x : Read Name ℕ) {a : Number} → a ≡ ofRead numbers x → {v q : ℕ} → a ≡ number.Is v q → x ≡ done v q
+number-form x told {v} {q} given =
+    let r = reads numbers-told x told (number.Is v q) (λ r e. zero-one cc) given in
+    let e = r .given in
+    let i : r .place ≡ q = cc in
+    let j : r .value ≡ v = cc in
+    r .done ∙ ap₂ done j i

@@ -2,7 +2,7 @@
 use Prim.Native.Nat.{ℕ, zero, suc, _+_, _-_, _*_, _%_, _≤_, _<_}
 use native.Mathlib.Nat.{add-zero}
 use native.Mathlib.Omega.{arith}
-use mathlib.Core.Path.{_≡_, refl, sym, ap, _∙_}
+use mathlib.Core.Path.{_≡_, refl, sym, _∙_}
 use mathlib.Core.Logic.{inl, inr}
 use mathlib.Core.Bool.{Bool, true, false, _&&_, _||_, cond}
 use mathlib.Core.List.{List, [], _∷_}
@@ -13,7 +13,7 @@ use borrow.Author.Tests.{leb-true, ne-eqb}
 use Rattle.form.specs.Kind.{Kind, fixed, digits, width, blanks}
 use Rattle.form.specs.Form.{Rule, Form, ret, get, any, _>>=_, _>>_}
 use Rattle.form.specs.Reader.{Look}
-use Rattle.form.specs.Place.{lookAt, fieldAt, Read, done, readAt}
+use Rattle.form.specs.Place.{lookAt, fieldAt, readAt}
 use Rattle.form.proofs.BoolLaws.{T-of, or-cases}
 use Rattle.rules.specs.Values.{Part}
 use Rattle.rules.specs.Writing.{section, toSectionEnd, toNextPart}
@@ -22,8 +22,8 @@ use Rattle.fields.specs.declared.Refusal.{Refusal}
 use Rattle.fields.specs.declared.Passed.{Passed}
 use Rattle.fields.specs.declared.Passed.the-variants as passed
 use Rattle.fields.specs.Answers.{refusalOf, ofField, ofRead, passings, passedWhy}
-use Rattle.fields.proofs.WalkLaws.{Fails, Walk, start, retold, last, reads, past-part, stopped-part}
-use Rattle.fields.proofs.AnswerLaws.{zero-one, passings-told}
+use Rattle.fields.proofs.WalkLaws.{Fails, Walk, start, retold, last, past-part, stopped-part}
+use Rattle.fields.proofs.AnswerLaws.{passings-told, passed-form}
 use Rattle.fields.proofs.LeafLaws.{leb-leb}
 
 -- ---- a part as a file of its own
@@ -62,14 +62,6 @@ fails-there same q x = record { reason = x .reason; lack = sym same ∙ x .lack;
 -- the value of a form makes no difference to an answer that keeps none
 pub not-kept : {A B : Type 0} {f : List ℕ} {g : Passed} (m : Form Name A) (h : A → B) {p : ℕ} → Walk passings f g (m >>= λ a. ret (h a)) p → Walk passings f g m p
 not-kept m h = retold passings passings m h (λ a q. refl) (λ x. refl)
-
--- a form that was passed, and the place behind it
-pub passed-form : {B : Type 0} {a : Passed} (x : Read Name B) → a ≡ ofRead passings x → {q : ℕ} → a ≡ passed.To q → (b : B) × (x ≡ done b q)
-passed-form x told {q} given =
-    let s = reads passings-told x told (passed.To q) (λ r e. zero-one cc) given in
-    let e = s .given in
-    let i : s .place ≡ q = cc in
-    (s .value, s .done ∙ ap (done (s .value)) i)
 
 -- ---- the blanks that close a section
 

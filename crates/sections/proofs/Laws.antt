@@ -1,15 +1,12 @@
 -- What the answers of the stretches tell, and the keys of a kind of file as the code tries them.
 use Prim.Native.Nat.{ℕ, _+_}
-use mathlib.Core.Path.{_≡_, refl, ap, ap₂, _∙_}
+use mathlib.Core.Path.{_≡_, refl, ap, _∙_}
 use mathlib.Core.Bool.{Bool, true, false, _||_}
 use Rattle.form.specs.Place.{Read, done}
 use Rattle.rules.specs.Fields.{Name}
 use Rattle.fields.specs.Answers.{ofRead}
 use Rattle.fields.proofs.WalkLaws.{Told, reads}
-use Rattle.fields.proofs.AnswerLaws.{zero-one, numbers-told}
-use Rattle.fields.specs.declared.Number.{Number}
-use Rattle.fields.specs.declared.Number.the-variants as number
-use Rattle.fields.specs.Answers.{numbers}
+use Rattle.fields.proofs.AnswerLaws.{zero-one}
 use Rattle.sums.specs.declared.AccountSum.{AccountSum}
 use Rattle.sums.specs.declared.BankCodeSum.{BankCodeSum}
 use Rattle.sums.specs.declared.CentSum.{CentSum}
@@ -54,11 +51,3 @@ amount-is sum x told {s} {q} given =
     let e = r .given in
     let i : r .place ≡ q = cc in
     (r .value, r .done ∙ ap (λ p. done (r .value) p) i, cc)
-
-pub part-count-is : (x : Read Name ℕ) {a : Number} → a ≡ ofRead numbers x → {k q : ℕ} → a ≡ number.Is k q → x ≡ done k q
-part-count-is x told {k} {q} given =
-    let r = reads numbers-told x told (number.Is k q) (λ r e. zero-one cc) given in
-    let e = r .given in
-    let i : r .place ≡ q = cc in
-    let j : r .value ≡ k = cc in
-    r .done ∙ ap₂ done j i

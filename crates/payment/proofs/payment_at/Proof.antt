@@ -9,12 +9,11 @@ use Rattle.form.specs.Place.{readAt}
 use Rattle.rules.specs.Fields.{Name, parts, payment}
 use Rattle.rules.specs.Values.{Part, Payment}
 use Rattle.fields.specs.Answers.{lettersOf, ofRead}
-use Rattle.fields.proofs.AnswerLaws.{numbers-told, passings-told}
+use Rattle.fields.proofs.AnswerLaws.{number-form, numbers-told, passed-form, passings-told}
 use Rattle.fields.proofs.WalkLaws.{Walk, finish, past-part, start, stopped-part}
 use Rattle.sums.specs.Sums.{totalsOf}
-use Rattle.parts.proofs.Laws.{passed-form}
 use Rattle.sections.specs.Sections.{Amount, Names, Receiver, amount, joined, names, partCount, receiver}
-use Rattle.sections.proofs.Laws.{amount-is, amounts-told, part-count-is, receiver-is, receivers-told}
+use Rattle.sections.proofs.Laws.{amount-is, amounts-told, receiver-is, receivers-told}
 use Rattle.payment.specs.Adding.{paymentsOn}
 use Rattle.payment.proofs.Laws.{behindAmount, behindCount, behindNames, behindReceiver, sums-are}
 use Rattle.payment.proofs.payment_at.Statement.{statement}
@@ -81,7 +80,7 @@ past4 : (c : tie.After-known-told4) → let d = two (three c) in
 past4 c =
     let d = two (three c) in
     past-part (partCount (begun (one d) .args .l)) (behindCount (received (one d)) (paid d) (named (three c))) (past3 (three c))
-    (part-count-is _ (c .before .before .before .part-count-at .ensures) (c .before .count .given .1))
+    (number-form _ (c .before .before .before .part-count-at .ensures) (c .before .count .given .1))
 
 -- the parts, and the payment that they complete
 abbrev partsOf : tie.After-known-told4 → Form Name (List Part)
