@@ -12,15 +12,13 @@ ghost use Rattle.checker.specs.Checking.{checkedOf, refusedWith, restOn}
 use fields::Number;
 use fields::Passed;
 use fields::Refusal;
+use fields::lengths;
 use fields::numbers;
 use header::HeaderRead;
 use payment::PaymentRead;
 use sums::Sums;
 
 const MOST_PAYMENTS: u64 = 9_999_999;
-
-// The length that E tells.
-const END_LENGTH: u64 = 128;
 
 // What is given back: number and place, and what the payments come to. With 0 the place is 0, with any other number the rest is.
 pub struct Checked {
@@ -46,10 +44,10 @@ fn refused(why: Refusal) -> Checked
 fn is_length(l: u64) -> bool
     ensures { λ r. ⌜ r ≡ isLength l ⌝ }
 {
-    if l < 187 {
+    if l < lengths::FIELDS {
         return false;
     }
-    (l <= 622) & ((l - 187) % 29 == 0)
+    (l <= lengths::LONGEST) & ((l - lengths::FIELDS) % lengths::PART == 0)
 }
 
 // The first field after A or a C, after so many payments that come to these sums.
@@ -60,7 +58,7 @@ fn length_at(s: &[u8], p: usize, count: u64, sums: Sums) -> Number
     let Number::Is(l, q) = a else {
         return Number::Refused(a.why());
     };
-    let ends = l == END_LENGTH;
+    let ends = l == lengths::END;
     let legal = (ends & (count >= 1)) | is_length(l);
     if !legal {
         return Number::Refused(fields::refuse(numbers::NO_LENGTH, p));
@@ -112,7 +110,7 @@ pub fn check(s: &[u8]) -> Checked
         let Number::Is(l, q) = first else {
             return refused(first.why());
         };
-        if l == END_LENGTH {
+        if l == lengths::END {
             return ended(s, q, count, sums);
         }
         let c = payment::payment_at(s, q, kind, sums, l);

@@ -12,6 +12,7 @@ ghost use Rattle.fields.specs.Answers.{refusalOf, ofField, passings, pas
 ghost use Rattle.fields.specs.Stretches.{widest, digitsOf, signsOf};
 
 pub mod fixed;
+pub mod lengths;
 pub mod numbers;
 
 // Why a file is refused: the number, and the first byte of the field.

@@ -13,6 +13,7 @@ use fields::Number;
 use fields::Passed;
 use fields::Refusal;
 use fields::fixed;
+use fields::lengths;
 use fields::numbers;
 use sums::AccountSum;
 use sums::AccountsRead;
@@ -169,7 +170,7 @@ fn fitting_count_at(s: &[u8], p: usize, l: u64) -> Number
     let Number::Is(k, q) = a else {
         return Number::Refused(a.why());
     };
-    if 187 + 29 * k != l {
+    if lengths::FIELDS + lengths::PART * k != l {
         return Number::Refused(fields::refuse(numbers::CONDITION, p));
     }
     Number::Is(k, q)
