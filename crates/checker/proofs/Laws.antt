@@ -23,13 +23,17 @@ use Rattle.rules.specs.Answer.{answer, numberOf, outcome}
 use Rattle.fields.specs.declared.Refusal.{Refusal}
 use Rattle.fields.specs.declared.Passed.{Passed}
 use Rattle.fields.specs.declared.Passed.the-variants as passed
-use Rattle.fields.specs.Answers.{refusalOf, ofRead, passings, passedWhy}
+use Rattle.fields.specs.Answers.{refusalOf, Telling, ofRead, passings, passedWhy}
 use Rattle.fields.proofs.WalkLaws.{Fails, Walk, past-ruled, stopped-ruled, halts, retold}
 use Rattle.fields.proofs.AnswerLaws.{passings-told, passed-form}
 use Rattle.checker.specs.declared.Checked.{Checked}
-use Rattle.checker.specs.Checking.{checkedOf, refusedWith, acceptedWith, ifOver, together, restOn, documents}
+use Rattle.checker.specs.Checking.{checkedOf, refusedWith, acceptedWith, ifOver, together, restOn}
 
 -- ---- the whole file
+
+-- what is answered of a document that was read
+abbrev pub documents : ℕ → Telling Document Checked
+documents size = record { gives = λ d q. ifOver (leb size q) (totals (d .payments)) q; refuses = refusedWith }
 
 over-told : (size : ℕ) (x : Read Name Document) → checkedOf (outcome (over x size)) ≡ ofRead (documents size) x
 unfolding outcome ofRead numberOf
@@ -56,7 +60,7 @@ same-totals t u n a b c i = record { count = n i; accounts = a i; bankCodes = b 
 together-none : (u : Totals) → together noTotals u ≡ u
 together-none u = same-totals (together noTotals u) u (omega arith) (omega arith) (omega arith) (omega arith)
 
-pub together-nothing : (t : Totals) → together t (totals []) ≡ t
+together-nothing : (t : Totals) → together t (totals []) ≡ t
 together-nothing t = same-totals (together t (totals [])) t (omega arith) (omega arith) (omega arith) (omega arith)
 
 together-more : (t : Totals) (p : Payment) (ps : List Payment) → together t (totals (p ∷ ps)) ≡ together (adding t p) (totals ps)
@@ -113,7 +117,7 @@ payment-more {f} kind t left x w =
 
 -- ---- E
 
-pub end-says-nothing : (t : Totals) (f : List ℕ) (p q : ℕ) (ps : List Payment) → readAt (end t) f p ≡ done ps q → ps ≡ []
+end-says-nothing : (t : Totals) (f : List ℕ) (p q : ℕ) (ps : List Payment) → readAt (end t) f p ≡ done ps q → ps ≡ []
 end-says-nothing t f p q ps e = sym (read-filled (end t) f p q ps e .1)
 
 module _ (f : List ℕ) (t : Totals) (p : ℕ) where

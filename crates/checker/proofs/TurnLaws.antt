@@ -1,4 +1,4 @@
--- One turn of the loop over payments, in the terms of the code: how it begins, how it goes on, and the four ways in which it ends.
+-- One turn of the loop over payments, in the terms of the code: how it begins, how it goes on, and how it ends.
 use Prim.Native.Nat.{ℕ, suc, _+_, _-_, _≤_, _<_}
 use native.Mathlib.Omega.{arith}
 use mathlib.Core.Path.{_≡_, sym, ap, _∙_, subst}

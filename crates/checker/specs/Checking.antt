@@ -3,7 +3,7 @@ use Prim.Native.Nat.{ℕ, _+_}
 use mathlib.Core.Bool.{Bool, true, false}
 use mathlib.Core.List.{List}
 use lib.Dec.{leb}
-use Rattle.rules.specs.Values.{Payment, Document, Totals, noTotals, totals}
+use Rattle.rules.specs.Values.{Payment, Totals, noTotals, totals}
 use Rattle.rules.specs.Answer.{Outcome}
 use Rattle.fields.specs.declared.Refusal.{Refusal}
 use Rattle.fields.specs.Answers.{refusalOf, Telling}
@@ -39,7 +39,3 @@ together t u =
 -- the payments still to come, after those that come to t
 abbrev pub restOn : ℕ → Totals → Telling (List Payment) Checked
 restOn size t = record { gives = λ ps q. ifOver (leb size q) (together t (totals ps)) q; refuses = refusedWith }
-
--- the whole document
-abbrev pub documents : ℕ → Telling Document Checked
-documents size = record { gives = λ d q. ifOver (leb size q) (totals (d .payments)) q; refuses = refusedWith }
