@@ -44,3 +44,6 @@ pub const NOT_COUNTED: u8 = 14;
 
 // Bytes follow E.
 pub const SURPLUS: u8 = 15;
+
+// The file is accepted, but a lent column or output is too short.
+pub const NO_ROOM: u8 = 16;

@@ -71,10 +71,9 @@ abbrev pub writeParts : ℕ → List Part → List ℕ
 writeParts i [] = blanks (toSectionEnd i)
 writeParts i (q ∷ qs) = inTurn (blanks (toNextPart i) ∷ numeral 2 (q .mark) ∷ q .words ∷ writeParts (suc i) qs ∷ [])
 
--- all of C but its length
-abbrev pub writeBody : Payment → List ℕ
-writeBody p =
-    inTurn (
+-- the fields of C behind its length
+abbrev pub fieldsOfC : Payment → List (List ℕ)
+fieldsOfC p =
     ascii "C"  -- C2
     ∷ numeral 8 (p .firstBank)  -- C3
     ∷ numeral 8 (p .bankCode)  -- C4
@@ -97,7 +96,10 @@ writeBody p =
     ∷ numeral 2 (length (p .parts))  -- C18
     ∷ writeParts 0 (p .parts)
     ∷ []
-    )
+
+-- all of C but its length
+abbrev pub writeBody : Payment → List ℕ
+writeBody p = inTurn (fieldsOfC p)
 
 -- C1, and the rest
 abbrev pub writePayment : Payment → List ℕ

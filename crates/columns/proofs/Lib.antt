@@ -1,0 +1,8 @@
+pub mod NumberLaws
+pub mod PlaceLaws
+pub mod PaymentLaws
+pub mod ColumnLaws
+pub mod FillLaws
+pub mod LoadLaws
+pub mod RowLaws
+pub mod Answers

@@ -1,0 +1,89 @@
+-- A load, once the check has answered: the file's refusal, no room, or all rows.
+-- Assumes nothing.
+use Prim.Native.Nat.{ℕ}
+use mathlib.Core.Path.{_≡_, refl, sym, ap, _∙_}
+use mathlib.Core.Logic.{_≢_}
+use mathlib.Core.Bool.{Bool, true, false, _&&_}
+use mathlib.Core.List.{List, [], _∷_}
+use lib.ListN.{length}
+use lib.Dec.{leb}
+use borrow.Author.Tests.{eq-eqb, ne-eqb}
+use Rattle.form.specs.Reader.{Answer, accepted, refused}
+use Rattle.rules.specs.Values.{Document}
+use Rattle.rules.specs.Fields.{Name}
+use Rattle.rules.specs.Answer.{answer, outcome}
+use Rattle.rules.proofs.Demand1.{zero-exactly}
+use Rattle.rules.proofs.Demand3.{accepted-exactly}
+use Rattle.checker.specs.declared.Checked.{Checked}
+use Rattle.checker.specs.Checking.{checkedOf}
+use Rattle.columns.specs.declared.Loaded.{Loaded}
+use Rattle.columns.specs.Columns.{bankCodes, accounts, cents, starts, filled}
+use Rattle.columns.specs.Loading.{room, ifRoom, loading, loadedAs, loadedOf, noRoom, paymentsOf, rows}
+
+-- the test of four columns as the code has it
+abbrev pub fourTested : ℕ → List ℕ → List ℕ → List ℕ → List ℕ → Bool
+fourTested n a b c d = leb n (length a) && (leb n (length b) && (leb n (length c) && leb n (length d)))
+
+room-of-four : (n : ℕ) (a b c d : List ℕ) → fourTested n a b c d ≡ room n (a ∷ b ∷ c ∷ d ∷ [])
+room-of-four n a b c d = ap (λ t. leb n (length a) && (leb n (length b) && (leb n (length c) && t))) (sym (and-true (leb n (length d))))
+  where
+    and-true : (t : Bool) → t && true ≡ t
+    and-true true = refl
+    and-true false = refl
+
+-- what `load` ensures of its result and of the columns, for the file and what the columns held before
+abbrev pub Says : List ℕ → List ℕ → List ℕ → List ℕ → List ℕ → Loaded → List ℕ → List ℕ → List ℕ → List ℕ → Type 0
+Says file c4 c5 c12 start r c4′ c5′ c12′ start′ =
+    (r ≡ loadedOf (loading (c4 ∷ c5 ∷ c12 ∷ start ∷ []) (answer file)))
+    × ((c4′ ≡ filled (bankCodes (rows r file)) c4)
+    × ((c5′ ≡ filled (accounts (rows r file)) c5)
+    × ((c12′ ≡ filled (cents (rows r file)) c12)
+    × (start′ ≡ filled (starts (rows r file)) start))))
+
+module _ (file c4 c5 c12 start : List ℕ) where
+  abbrev columns : List (List ℕ)
+  columns = c4 ∷ c5 ∷ c12 ∷ start ∷ []
+
+  -- no rows leave the columns as they were
+  unchanged : (r : Loaded) → r ≡ loadedOf (loading columns (answer file)) → rows r file ≡ [] → Says file c4 c5 c12 start r c4 c5 c12 start
+  unchanged r e n =
+      (e, (ap (λ ps. filled (bankCodes ps) c4) (sym n), (ap (λ ps. filled (accounts ps) c5) (sym n), (ap (λ ps. filled (cents ps) c12) (sym n), ap (λ ps. filled (starts ps) start) (sym n)))))
+
+  module _ {c : Checked} (told : c ≡ checkedOf (outcome (answer file))) where
+    -- the file is refused
+    pub load-refused : {r : Loaded} → r ≡ loadedAs c → c .number ≢ 0 → Says file c4 c5 c12 start r c4 c5 c12 start
+    unfolding outcome loading
+    load-refused {r} e n = unchanged r (e ∙ ap loadedAs told ∙ by (answer file) refl) (rw e (rw (ne-eqb (c .number) 0 n)))
+      where
+        by : (a : Answer Name Document) → answer file ≡ a → loadedAs (checkedOf (outcome a)) ≡ loadedOf (loading columns a)
+        by (accepted d) i = absurd (n (ap (λ (x : Checked). x .number) told ∙ ap (λ a. outcome a .number) i))
+        by (refused z) i = refl
+
+    module _ (zero : c .number ≡ 0) where
+      accepted-as : (d : Document) × (answer file ≡ accepted d)
+      accepted-as = accepted-exactly file .1 (zero-exactly file .0 (sym (ap (λ (x : Checked). x .number) told) ∙ zero))
+
+      pub count-is : c .count ≡ length (paymentsOf (answer file))
+      unfolding paymentsOf outcome
+      count-is = let e = accepted-as .1 in rw (told, e)
+
+      -- with room for so many rows or not
+      loaded-if : loading columns (answer file) ≡ ifRoom (room (c .count) columns) (outcome (answer file))
+      unfolding paymentsOf loading
+      loaded-if = let e = accepted-as .1 in rw (count-is, e)
+
+      -- a column is too short
+      pub load-no-room : fourTested (c .count) c4 c5 c12 start ≡ false → Says file c4 c5 c12 start (loadedOf noRoom) c4 c5 c12 start
+      load-no-room f = unchanged (loadedOf noRoom) (ap loadedOf (sym (loaded-if ∙ rw (sym (room-of-four (c .count) c4 c5 c12 start) ∙ f)))) refl
+
+      -- all rows are written
+      module _ (t : fourTested (c .count) c4 c5 c12 start ≡ true) where
+        pub may-fill : (c .count ≡ length (paymentsOf (answer file))) × (room (c .count) columns ≡ true)
+        may-fill = (count-is, sym (room-of-four (c .count) c4 c5 c12 start) ∙ t)
+
+        pub load-full : {r : Loaded} → r ≡ loadedAs c → {c4′ c5′ c12′ start′ : List ℕ}
+            → (let ps = paymentsOf (answer file) in (c4′ ≡ filled (bankCodes ps) c4) × ((c5′ ≡ filled (accounts ps) c5) × ((c12′ ≡ filled (cents ps) c12) × (start′ ≡ filled (starts ps) start))))
+            → Says file c4 c5 c12 start r c4′ c5′ c12′ start′
+        load-full {r} e f =
+            let all : paymentsOf (answer file) ≡ rows r file = rw e (rw (eq-eqb (c .number) 0 zero)) in
+            (e ∙ ap loadedAs told ∙ ap loadedOf (sym (loaded-if ∙ rw (may-fill .1))), rw all at f)
