@@ -17,7 +17,7 @@ use Rattle.rules.proofs.LayoutLaws.{header-length}
 use Rattle.rules.proofs.Demand3.{accepted-exactly, accepted-reading}
 use Rattle.columns.specs.Columns.{bankCodes, accounts, cents, startsFrom, starts, filled}
 use Rattle.columns.specs.Loading.{paymentsOf}
-use Rattle.columns.proofs.PlaceLaws.{Stand, first-inside, behind-first, opened}
+use Rattle.columns.proofs.StandLaws.{Stand, first-inside, behind-first, opened}
 use Rattle.columns.proofs.PaymentLaws.{Row, fieldsOf, row, bytes-told, length-bounds}
 use Rattle.columns.proofs.ColumnLaws.{Column, column-start, column-more, column-end}
 

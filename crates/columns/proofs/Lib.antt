@@ -1,5 +1,5 @@
 pub mod NumberLaws
-pub mod PlaceLaws
+pub mod StandLaws
 pub mod PaymentLaws
 pub mod ColumnLaws
 pub mod FillLaws

@@ -13,7 +13,7 @@ use Rattle.rules.specs.Rules.{LegalPayment}
 use Rattle.rules.specs.Writing.{section, lengthOf, fieldsOfC, writePayment}
 use Rattle.rules.proofs.PaymentSays.{few-parts}
 use Rattle.rules.proofs.LayoutLaws.{payment-length}
-use Rattle.columns.proofs.PlaceLaws.{Stand, behind-first, Spells, numeral-spells, spells-at}
+use Rattle.columns.proofs.StandLaws.{Stand, behind-first, Spells, numeral-spells, spells-at}
 
 pub record Row (f : List ℕ) (p : ℕ) (x : Payment) : Type 0 where
   pub lengthField : Spells f p 4 (lengthOf (length (x .parts)))

@@ -1,0 +1,63 @@
+-- A worked load: a file of two payments, the first with three parts, into columns of three rows; and into columns of which one is too short.
+use Prim.Native.Nat.{ℕ}
+use mathlib.Core.Path.{_≡_, refl}
+use mathlib.Core.List.{List, [], _∷_}
+use lib.ListN.{take}
+use Rattle.form.specs.Kind.{blanks}
+use Rattle.rules.specs.Signs.{ascii}
+use Rattle.rules.specs.Writing.{inTurn}
+use Rattle.rules.specs.Answer.{answer, Outcome}
+use Rattle.rules.specs.Cases.{padded, headerM, paymentM, endM, put, given}
+use Rattle.columns.specs.Columns.{bankCodes, accounts, cents, starts, filled}
+use Rattle.columns.specs.Loading.{noRoom, loading, loadedOf, paymentsOf, rows}
+
+-- case M's payment with three parts: the third stands in a section of its own
+abbrev pub longer : List ℕ
+longer =
+    inTurn (
+    take 187 (put 0 "0274" (put 185 "03" paymentM))
+    ∷ ascii "02"
+    ∷ padded "KUNDE 4"
+    ∷ ascii "02"
+    ∷ padded "KUNDE 5"
+    ∷ blanks 11
+    ∷ ascii "02"
+    ∷ padded "KUNDE 6"
+    ∷ blanks 99
+    ∷ []
+    )
+
+abbrev pub file : List ℕ
+file =
+    inTurn (
+    headerM
+    ∷ longer
+    ∷ put 13 "20050010" (put 21 "0000000005" (put 79 "00000000001" paymentM))
+    ∷ put 10 "0000002" (put 30 "00000000007654326" (put 47 "00000000050100030" (put 64 "0000000012346" endM)))
+    ∷ []
+    )
+
+abbrev pub old : List ℕ
+old = 1 ∷ 2 ∷ 3 ∷ []
+
+abbrev pub accepted : Outcome
+accepted = record { number = 0; place = 0; totals = record { count = 2; accounts = 7_654_326; bankCodes = 50_100_030; cents = 12_346 } }
+
+pub loads : loading (old ∷ old ∷ old ∷ old ∷ []) (answer file) ≡ accepted
+unfolding loading given
+loads = refl
+
+-- each column with its two rows, and its third as it was
+pub rows-written : let ps = rows (loadedOf accepted) file in
+    (filled (bankCodes ps) old ∷ filled (accounts ps) old ∷ filled (cents ps) old ∷ filled (starts ps) old ∷ [])
+    ≡ ((30_050_020 ∷ 20_050_010 ∷ 3 ∷ []) ∷ (7_654_321 ∷ 5 ∷ 3 ∷ []) ∷ (12_345 ∷ 1 ∷ 3 ∷ []) ∷ (128 ∷ 512 ∷ 3 ∷ []) ∷ [])
+unfolding paymentsOf given
+rows-written = refl
+
+-- one row is too few in any of them, and then nothing is written
+pub no-room : loading (old ∷ old ∷ old ∷ (1 ∷ []) ∷ []) (answer file) ≡ noRoom
+unfolding loading given
+no-room = refl
+
+pub nothing-written : filled (starts (rows (loadedOf noRoom) file)) old ≡ old
+nothing-written = refl
