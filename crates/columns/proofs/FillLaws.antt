@@ -19,7 +19,7 @@ use Rattle.columns.specs.Columns.{bankCodes, accounts, cents, startsFrom
 use Rattle.columns.specs.Loading.{paymentsOf}
 use Rattle.columns.proofs.StandLaws.{Stand, first-inside, behind-first, opened}
 use Rattle.columns.proofs.PaymentLaws.{Row, fieldsOf, row, bytes-told, length-bounds}
-use Rattle.columns.proofs.ColumnLaws.{Column, column-start, column-more, column-end}
+use Rattle.columns.proofs.ColumnLaws.{Roomy, Column, column-start, column-more, column-end}
 
 -- payments that stand at p one after another, each of them legal
 pub record Coming (f : List ℕ) (p : ℕ) (ps : List Payment) : Type 0 where
@@ -83,7 +83,7 @@ fill-start f c4 c5 c12 start =
 
 -- ---- a row
 
--- the first payment still to come
+-- the first payment still to come, at p: what its row reads, how many bytes its length tells, and the payments behind it
 pub record First (f : List ℕ) (p : ℕ) (left : List Payment) : Type 0 where
   pub payment : Payment
   pub others : List Payment
@@ -145,14 +145,15 @@ module _ {f : List ℕ} {all : List Payment} {c4₀ c5₀ c12₀ start₀ c4 c5 
         by [] e = refl
         by (x ∷ xs) e = absurd (omega arith)
 
-    pub bank-codes-filled : length all ≤ length c4₀ → c4 ≡ filled (bankCodes all) c4₀
-    bank-codes-filled l = column-end (rw none-left at (r .bankCodesLeft)) (omega (arith, length-map all (λ (x : Payment). x .bankCode)))
-
-    pub accounts-filled : length all ≤ length c5₀ → c5 ≡ filled (accounts all) c5₀
-    accounts-filled l = column-end (rw none-left at (r .accountsLeft)) (omega (arith, length-map all (λ (x : Payment). x .account)))
-
-    pub cents-filled : length all ≤ length c12₀ → c12 ≡ filled (cents all) c12₀
-    cents-filled l = column-end (rw none-left at (r .centsLeft)) (omega (arith, length-map all (λ (x : Payment). x .cents)))
-
-    pub starts-filled : length all ≤ length start₀ → start ≡ filled (starts all) start₀
-    starts-filled l = column-end (rw none-left at (r .startsLeft)) (omega (arith, length-starts 128 all))
+    pub fill-ends : Roomy (length all) c4₀ c5₀ c12₀ start₀
+        → (c4 ≡ filled (bankCodes all) c4₀) × ((c5 ≡ filled (accounts all) c5₀) × ((c12 ≡ filled (cents all) c12₀) × (start ≡ filled (starts all) start₀)))
+    fill-ends l = (
+      column-end (rw none-left at (r .bankCodesLeft)) (rw (length-map all (λ (x : Payment). x .bankCode)) (l .c4)),
+      (
+        column-end (rw none-left at (r .accountsLeft)) (rw (length-map all (λ (x : Payment). x .account)) (l .c5)),
+        (
+          column-end (rw none-left at (r .centsLeft)) (rw (length-map all (λ (x : Payment). x .cents)) (l .c12)),
+          column-end (rw none-left at (r .startsLeft)) (rw (length-starts 128 all) (l .start)),
+        ),
+      ),
+    )

@@ -15,6 +15,7 @@ use Rattle.rules.proofs.PaymentSays.{few-parts}
 use Rattle.rules.proofs.LayoutLaws.{payment-length}
 use Rattle.columns.proofs.StandLaws.{Stand, behind-first, Spells, numeral-spells, spells-at}
 
+-- C1, C4, C5 and C12 of the payment x, which begins at p
 pub record Row (f : List ℕ) (p : ℕ) (x : Payment) : Type 0 where
   pub lengthField : Spells f p 4 (lengthOf (length (x .parts)))
   pub bankCode : Spells f (p + 13) 8 (x .bankCode)

@@ -8,7 +8,7 @@ use borrow.Author.Needs.{needs}
 use Rattle.rules.specs.Answer.{answer}
 use Rattle.columns.specs.Loading.{paymentsOf}
 use Rattle.columns.proofs.ColumnLaws.{Roomy, has-room}
-use Rattle.columns.proofs.FillLaws.{Filling, First, first, fill-start, fill-more, bank-codes-filled, accounts-filled, cents-filled, starts-filled}
+use Rattle.columns.proofs.FillLaws.{Filling, First, first, fill-start, fill-more, fill-ends}
 use Rattle.columns.proofs.fill.Statement.{statement}
 use Rattle.columns.proofs.fill.Tie as tie
 
@@ -119,11 +119,10 @@ same-length-4 : tie.Need-same-length-4 Inv-loop μ-loop
 same-length-4 c = c .before .loop .inv .startsLeft .long
 
 returns : tie.Need-returns Inv-loop μ-loop
-returns c = let s = c .before .before .before .before .before .before .before in
-    let f = c .before .loop .inv in
+returns c =
+    let s = c .before .before .before .before .before .before .before in
     let all = subst (λ n. n ≤ c .before .loop .row) (s .pre .0) (c .loop-test .left) in
-    let r = subst (λ n. Roomy n (s .args .c4 .now) (s .args .c5 .now) (s .args .c12 .now) (s .args .start .now)) (s .pre .0) (roomy s) in
-    (bank-codes-filled f all (r .c4), (accounts-filled f all (r .c5), (cents-filled f all (r .c12), starts-filled f all (r .start))))
+    fill-ends (c .before .loop .inv) all (subst (λ n. Roomy n (s .args .c4 .now) (s .args .c5 .now) (s .args .c12 .now) (s .args .start .now)) (s .pre .0) (roomy s))
 
 pub fill-spec : {M : Type 1} → statement M
 fill-spec =
