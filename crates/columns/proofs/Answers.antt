@@ -3,7 +3,7 @@
 -- Assumes nothing.
 use Prim.Native.Nat.{ℕ, _+_}
 use native.Mathlib.Omega.{arith}
-use mathlib.Core.Path.{_≡_, refl, sym, ap, _∙_}
+use mathlib.Core.Path.{_≡_, refl, sym, ap, subst, _∙_}
 use mathlib.Core.Logic.{_↔_, _≢_}
 use mathlib.Core.Bool.{Bool, true, false}
 use mathlib.Core.List.{List, [], _∷_, _++_}
@@ -22,6 +22,7 @@ use Rattle.checker.specs.Checking.{checkedOf}
 use Rattle.columns.specs.declared.Loaded.{Loaded}
 use Rattle.columns.specs.Columns.{bankCodes, accounts, cents, starts, filled}
 use Rattle.columns.specs.Loading.{room, ifRoom, noRoom, loading, loadedAs, loadedOf, paymentsOf, rows}
+use Rattle.columns.proofs.ColumnLaws.{Filled}
 use Rattle.columns.proofs.FillLaws.{length-starts}
 use Rattle.columns.proofs.LoadLaws.{Says}
 use Rattle.columns.proofs.RowLaws.{row-of, start-of, stands-at, behind-rows}
@@ -90,14 +91,10 @@ module _ (file c4 c5 c12 start : List ℕ) where
             zero-exactly file .0 (ap (λ a. outcome a .number) e ∙ sym (ap (λ a. loading columns a .number) e) ∙ sym (ap (λ (l : Loaded). l .number) (says .0)) ∙ z)
 
     -- a refused call leaves every column as it was
-    pub refused-untouched : r .number ≢ 0 → (c4′ ≡ c4) × (c5′ ≡ c5) × (c12′ ≡ c12) × (start′ ≡ start)
+    pub refused-untouched : r .number ≢ 0 → (c4′ ≡ c4) × ((c5′ ≡ c5) × ((c12′ ≡ c12) × (start′ ≡ start)))
     refused-untouched n =
-        let none : rows r file ≡ [] = rw (ne-eqb (r .number) 0 n) in (
-          says .1 .0 ∙ ap (λ ps. filled (bankCodes ps) c4) none,
-          says .1 .1 .0 ∙ ap (λ ps. filled (accounts ps) c5) none,
-          says .1 .1 .1 .0 ∙ ap (λ ps. filled (cents ps) c12) none,
-          says .1 .1 .1 .1 ∙ ap (λ ps. filled (starts ps) start) none,
-        )
+        let none : rows r file ≡ [] = rw (ne-eqb (r .number) 0 n) in
+        subst (λ ps. Filled ps c4 c5 c12 start c4′ c5′ c12′ start′) none (says .1)
 
     module _ (zero : r .number ≡ 0) (x : Acceptable file) where
       -- the rows that are written

@@ -11,7 +11,8 @@ use lib.ListN.{length, set, length-set}
 use lib.Seq.{sets, sets-eq}
 use lib.Dec.{leb, leb→le}
 use Rattle.form.proofs.BoolLaws.{T-of, and-both}
-use Rattle.columns.specs.Columns.{filled}
+use Rattle.rules.specs.Values.{Payment}
+use Rattle.columns.specs.Columns.{bankCodes, accounts, cents, starts, filled}
 use Rattle.columns.specs.Loading.{room}
 
 -- four columns of at least n rows
@@ -32,6 +33,11 @@ has-room n a b c d e =
       c12 = leb→le n (length c) z.0;
       start = leb→le n (length d) (and-both (leb n (length d)) _ z.1 .0);
     }
+
+-- the four columns with the rows of these payments, and behind them what they held before
+abbrev pub Filled : List Payment → List ℕ → List ℕ → List ℕ → List ℕ → List ℕ → List ℕ → List ℕ → List ℕ → Type 0
+Filled ps c4 c5 c12 start c4′ c5′ c12′ start′ =
+    (c4′ ≡ filled (bankCodes ps) c4) × ((c5′ ≡ filled (accounts ps) c5) × ((c12′ ≡ filled (cents ps) c12) × (start′ ≡ filled (starts ps) start)))
 
 -- it is as long as it was; the rows still to come, written from i on, make of it what all rows make of the old column
 pub record Column (old col : List ℕ) (i : ℕ) (left all : List ℕ) : Type 0 where

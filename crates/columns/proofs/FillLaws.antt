@@ -15,11 +15,11 @@ use Rattle.rules.specs.Fields.{Name}
 use Rattle.rules.specs.Answer.{answer}
 use Rattle.rules.proofs.LayoutLaws.{header-length}
 use Rattle.rules.proofs.Demand3.{accepted-exactly, accepted-reading}
-use Rattle.columns.specs.Columns.{bankCodes, accounts, cents, startsFrom, starts, filled}
+use Rattle.columns.specs.Columns.{bankCodes, accounts, cents, startsFrom, starts}
 use Rattle.columns.specs.Loading.{paymentsOf}
 use Rattle.columns.proofs.StandLaws.{Stand, first-inside, behind-first, opened}
 use Rattle.columns.proofs.PaymentLaws.{Row, fieldsOf, row, bytes-told, length-bounds}
-use Rattle.columns.proofs.ColumnLaws.{Roomy, Column, column-start, column-more, column-end}
+use Rattle.columns.proofs.ColumnLaws.{Roomy, Filled, Column, column-start, column-more, column-end}
 
 -- payments that stand at p one after another, each of them legal
 pub record Coming (f : List ℕ) (p : ℕ) (ps : List Payment) : Type 0 where
@@ -145,8 +145,7 @@ module _ {f : List ℕ} {all : List Payment} {c4₀ c5₀ c12₀ start₀ c4 c5 
         by [] e = refl
         by (x ∷ xs) e = absurd (omega arith)
 
-    pub fill-ends : Roomy (length all) c4₀ c5₀ c12₀ start₀
-        → (c4 ≡ filled (bankCodes all) c4₀) × ((c5 ≡ filled (accounts all) c5₀) × ((c12 ≡ filled (cents all) c12₀) × (start ≡ filled (starts all) start₀)))
+    pub fill-ends : Roomy (length all) c4₀ c5₀ c12₀ start₀ → Filled all c4₀ c5₀ c12₀ start₀ c4 c5 c12 start
     fill-ends l = (
       column-end (rw none-left at (r .bankCodesLeft)) (rw (length-map all (λ (x : Payment). x .bankCode)) (l .c4)),
       (

@@ -1,7 +1,7 @@
 -- A load, once the check has answered: the file's refusal, no room, or all rows.
 -- Assumes nothing.
 use Prim.Native.Nat.{ℕ}
-use mathlib.Core.Path.{_≡_, refl, sym, ap, _∙_}
+use mathlib.Core.Path.{_≡_, refl, sym, ap, subst, _∙_}
 use mathlib.Core.Logic.{_≢_}
 use mathlib.Core.Bool.{Bool, true, false, _&&_}
 use mathlib.Core.List.{List, [], _∷_}
@@ -17,8 +17,8 @@ use Rattle.rules.proofs.Demand3.{accepted-exactly}
 use Rattle.checker.specs.declared.Checked.{Checked}
 use Rattle.checker.specs.Checking.{checkedOf}
 use Rattle.columns.specs.declared.Loaded.{Loaded}
-use Rattle.columns.specs.Columns.{bankCodes, accounts, cents, starts, filled}
 use Rattle.columns.specs.Loading.{room, ifRoom, loading, loadedAs, loadedOf, noRoom, paymentsOf, rows}
+use Rattle.columns.proofs.ColumnLaws.{Filled}
 
 -- the test of four columns as the code has it
 abbrev pub fourTested : ℕ → List ℕ → List ℕ → List ℕ → List ℕ → Bool
@@ -34,11 +34,7 @@ room-of-four n a b c d = ap (λ t. leb n (length a) && (leb n (length b) && (leb
 -- what `load` ensures of its result and of the columns, for the file and what the columns held before
 abbrev pub Says : List ℕ → List ℕ → List ℕ → List ℕ → List ℕ → Loaded → List ℕ → List ℕ → List ℕ → List ℕ → Type 0
 Says file c4 c5 c12 start r c4′ c5′ c12′ start′ =
-    (r ≡ loadedOf (loading (c4 ∷ c5 ∷ c12 ∷ start ∷ []) (answer file)))
-    × ((c4′ ≡ filled (bankCodes (rows r file)) c4)
-    × ((c5′ ≡ filled (accounts (rows r file)) c5)
-    × ((c12′ ≡ filled (cents (rows r file)) c12)
-    × (start′ ≡ filled (starts (rows r file)) start))))
+    (r ≡ loadedOf (loading (c4 ∷ c5 ∷ c12 ∷ start ∷ []) (answer file))) × Filled (rows r file) c4 c5 c12 start c4′ c5′ c12′ start′
 
 module _ (file c4 c5 c12 start : List ℕ) where
   abbrev columns : List (List ℕ)
@@ -46,8 +42,7 @@ module _ (file c4 c5 c12 start : List ℕ) where
 
   -- no rows leave the columns as they were
   unchanged : (r : Loaded) → r ≡ loadedOf (loading columns (answer file)) → rows r file ≡ [] → Says file c4 c5 c12 start r c4 c5 c12 start
-  unchanged r e n =
-      (e, (ap (λ ps. filled (bankCodes ps) c4) (sym n), (ap (λ ps. filled (accounts ps) c5) (sym n), (ap (λ ps. filled (cents ps) c12) (sym n), ap (λ ps. filled (starts ps) start) (sym n)))))
+  unchanged r e n = (e, subst (λ ps. Filled ps c4 c5 c12 start c4 c5 c12 start) (sym n) (refl, (refl, (refl, refl))))
 
   module _ {c : Checked} (told : c ≡ checkedOf (outcome (answer file))) where
     -- the file is refused
@@ -82,8 +77,8 @@ module _ (file c4 c5 c12 start : List ℕ) where
         may-fill = (count-is, sym (room-of-four (c .count) c4 c5 c12 start) ∙ t)
 
         pub load-full : {r : Loaded} → r ≡ loadedAs c → {c4′ c5′ c12′ start′ : List ℕ}
-            → (let ps = paymentsOf (answer file) in (c4′ ≡ filled (bankCodes ps) c4) × ((c5′ ≡ filled (accounts ps) c5) × ((c12′ ≡ filled (cents ps) c12) × (start′ ≡ filled (starts ps) start))))
+            → Filled (paymentsOf (answer file)) c4 c5 c12 start c4′ c5′ c12′ start′
             → Says file c4 c5 c12 start r c4′ c5′ c12′ start′
-        load-full {r} e f =
+        load-full {r} e {c4′} {c5′} {c12′} {start′} f =
             let all : paymentsOf (answer file) ≡ rows r file = rw e (rw (eq-eqb (c .number) 0 zero)) in
-            (e ∙ ap loadedAs told ∙ ap loadedOf (sym (loaded-if ∙ rw (may-fill .1))), rw all at f)
+            (e ∙ ap loadedAs told ∙ ap loadedOf (sym (loaded-if ∙ rw (may-fill .1))), subst (λ ps. Filled ps c4 c5 c12 start c4′ c5′ c12′ start′) all f)

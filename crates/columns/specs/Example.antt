@@ -1,4 +1,4 @@
--- A worked load: a file of two payments, the first with three parts, into columns of three rows; and into columns of which one is too short.
+-- Worked loads: case M; a file of two payments, the first with three parts, into columns of three rows, and where one column is too short.
 use Prim.Native.Nat.{ℕ}
 use mathlib.Core.Path.{_≡_, refl}
 use mathlib.Core.List.{List, [], _∷_}
@@ -6,10 +6,31 @@ use lib.ListN.{take}
 use Rattle.form.specs.Kind.{blanks}
 use Rattle.rules.specs.Signs.{ascii}
 use Rattle.rules.specs.Writing.{inTurn}
-use Rattle.rules.specs.Answer.{answer, Outcome}
-use Rattle.rules.specs.Cases.{padded, headerM, paymentM, endM, put, given}
+use Rattle.rules.specs.Answer.{answer, Outcome, outcome}
+use Rattle.rules.specs.Cases.{padded, headerM, paymentM, endM, fileM, put, given}
 use Rattle.columns.specs.Columns.{bankCodes, accounts, cents, starts, filled}
 use Rattle.columns.specs.Loading.{noRoom, loading, loadedOf, paymentsOf, rows}
+
+-- ---- case M, into columns of two rows, and where the last has none
+
+abbrev pub two : List ℕ
+two = 1 ∷ 2 ∷ []
+
+pub loadsM : loading (two ∷ two ∷ two ∷ two ∷ []) (answer fileM) ≡ outcome (answer fileM)
+unfolding loading given
+loadsM = refl
+
+pub rowM : let ps = paymentsOf (answer fileM) in
+    (filled (bankCodes ps) two ∷ filled (accounts ps) two ∷ filled (cents ps) two ∷ filled (starts ps) two ∷ [])
+    ≡ ((30_050_020 ∷ 2 ∷ []) ∷ (7_654_321 ∷ 2 ∷ []) ∷ (12_345 ∷ 2 ∷ []) ∷ (128 ∷ 2 ∷ []) ∷ [])
+unfolding paymentsOf given
+rowM = refl
+
+pub no-roomM : loading (two ∷ two ∷ two ∷ [] ∷ []) (answer fileM) ≡ noRoom
+unfolding loading given
+no-roomM = refl
+
+-- ---- two payments
 
 -- case M's payment with three parts: the third stands in a section of its own
 abbrev pub longer : List ℕ
