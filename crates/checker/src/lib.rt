@@ -51,7 +51,7 @@ fn is_length(l: u64) -> bool
 }
 
 // The first field after A or a C, after so many payments that come to these sums.
-fn length_at(s: &[u8], p: usize, count: u64, sums: Sums) -> Number
+pub fn length_at(s: &[u8], p: usize, count: u64, sums: Sums) -> Number
     ensures { λ r. ⌜ r ≡ ofField numbers p (p + 4) (fieldAt (digits 4) (firstField (totalsOf count sums)) (now (s .entry)) p) ⌝ }
 {
     let a = fields::number_at(s, p, 4);

@@ -14,13 +14,13 @@ use Rattle.form.specs.Reader.{Answer, accepted, refused}
 use Rattle.rules.specs.Values.{Payment, Document, totals}
 use Rattle.rules.specs.Writing.{writeHeader, writePayment, writePayments, Acceptable}
 use Rattle.rules.specs.Fields.{Name}
-use Rattle.rules.specs.Answer.{answer, outcome}
+use Rattle.rules.specs.Answer.{answer, outcome, filled}
 use Rattle.rules.proofs.LayoutLaws.{header-length}
 use Rattle.rules.proofs.Demand1.{zero-exactly}
 use Rattle.rules.proofs.Demand3.{accepted-exactly, accepted-reading}
 use Rattle.checker.specs.Checking.{checkedOf}
 use Rattle.columns.specs.declared.Loaded.{Loaded}
-use Rattle.columns.specs.Columns.{bankCodes, accounts, cents, starts, filled}
+use Rattle.columns.specs.Columns.{bankCodes, accounts, cents, starts}
 use Rattle.columns.specs.Loading.{room, ifRoom, noRoom, loading, loadedAs, loadedOf, paymentsOf, rows}
 use Rattle.columns.proofs.ColumnLaws.{Filled}
 use Rattle.columns.proofs.FillLaws.{length-starts}

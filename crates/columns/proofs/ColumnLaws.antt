@@ -12,7 +12,8 @@ use lib.Seq.{sets, sets-eq}
 use lib.Dec.{leb, leb→le}
 use Rattle.form.proofs.BoolLaws.{T-of, and-both}
 use Rattle.rules.specs.Values.{Payment}
-use Rattle.columns.specs.Columns.{bankCodes, accounts, cents, starts, filled}
+use Rattle.rules.specs.Answer.{filled}
+use Rattle.columns.specs.Columns.{bankCodes, accounts, cents, starts}
 use Rattle.columns.specs.Loading.{room}
 
 -- four columns of at least n rows

@@ -10,7 +10,8 @@ use lib.Seq.{take-at, drop-at}
 use Rattle.rules.specs.Values.{Payment, Document, totals}
 use Rattle.rules.specs.Writing.{writeHeader, writePayment, writePayments, writeEnd, write}
 use Rattle.fields.proofs.AnswerLaws.{zero-one}
-use Rattle.columns.specs.Columns.{startsFrom, filled}
+use Rattle.rules.specs.Answer.{filled}
+use Rattle.columns.specs.Columns.{startsFrom}
 
 is-some : {A : Type 0} {x y : A} → _≡_ {A = Option A} (some x) (some y) → x ≡ y
 is-some e = cc

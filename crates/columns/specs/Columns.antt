@@ -1,7 +1,7 @@
 -- The columns of payments: three numbers of each, and the byte where it begins.
 use Prim.Native.Nat.{ℕ, _+_}
-use mathlib.Core.List.{List, [], _∷_, _++_, map}
-use lib.ListN.{length, drop}
+use mathlib.Core.List.{List, [], _∷_, map}
+use lib.ListN.{length}
 use Rattle.rules.specs.Values.{Payment}
 use Rattle.rules.specs.Writing.{writePayment}
 
@@ -25,7 +25,3 @@ startsFrom p (x ∷ xs) = p ∷ startsFrom (p + length (writePayment x)) xs
 -- in a file, where the first stands behind A
 abbrev pub starts : List Payment → List ℕ
 starts ps = startsFrom 128 ps
-
--- rows from the first on, and behind them what the column held there
-abbrev pub filled : List ℕ → List ℕ → List ℕ
-filled rows old = rows ++ drop (length rows) old

@@ -6,9 +6,9 @@ use lib.ListN.{take}
 use Rattle.form.specs.Kind.{blanks}
 use Rattle.rules.specs.Signs.{ascii}
 use Rattle.rules.specs.Writing.{inTurn}
-use Rattle.rules.specs.Answer.{answer, Outcome, outcome}
+use Rattle.rules.specs.Answer.{answer, Outcome, outcome, filled}
 use Rattle.rules.specs.Cases.{padded, headerM, paymentM, endM, fileM, put, given}
-use Rattle.columns.specs.Columns.{bankCodes, accounts, cents, starts, filled}
+use Rattle.columns.specs.Columns.{bankCodes, accounts, cents, starts}
 use Rattle.columns.specs.Loading.{noRoom, loading, loadedOf, paymentsOf, rows}
 
 -- ---- case M, into columns of two rows, and where the last has none

@@ -100,7 +100,7 @@ impl KindRead {
 }
 
 // Whether a field of w bytes at p ends within len bytes.
-fn whole(len: usize, p: usize, w: usize) -> bool
+pub fn whole(len: usize, p: usize, w: usize) -> bool
     ensures { λ r. ⌜ r ≡ leb (p + w) len ⌝ }
 {
     if len < w {

@@ -47,3 +47,9 @@ pub const SURPLUS: u8 = 15;
 
 // The file is accepted, but a lent column or output is too short.
 pub const NO_ROOM: u8 = 16;
+
+// A line of a listing has not its form.
+pub const NO_LINE: u8 = 17;
+
+// A listing ends with no line of A or of a payment.
+pub const ENDS_EARLY: u8 = 18;

@@ -1,6 +1,7 @@
 -- The answer to a file: accepted with what it says, or refused with a number and a place, and the figures that a result gives.
 use Prim.Native.Nat.{ℕ}
-use mathlib.Core.List.{List}
+use mathlib.Core.List.{List, _++_}
+use lib.ListN.{length, drop}
 use Rattle.form.specs.Reader.{Reason, short, not-fixed, not-digit, not-sign, breaks, surplus, Answer, accepted, refused, run}
 use Rattle.rules.specs.Values.{Document, Totals, noTotals, totals}
 use Rattle.rules.specs.Fields.{Name, document}
@@ -27,3 +28,7 @@ pub record Outcome : Type 0 where
 unfoldable pub outcome : Answer Name Document → Outcome
 outcome (accepted d) = record { number = 0; place = 0; totals = totals (d .payments) }
 outcome (refused r) = record { number = numberOf (r .reason); place = r .place; totals = noTotals }
+
+-- what a lent slice holds afterwards: what was written, from the first place on, and behind it what it held before
+abbrev pub filled : List ℕ → List ℕ → List ℕ
+filled new old = new ++ drop (length new) old

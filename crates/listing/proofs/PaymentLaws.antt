@@ -1,0 +1,216 @@
+-- The line of a C: the fields of a payment that may come next are composed to it, and a line that is composed to a payment has its fields.
+-- Assumes nothing.
+use Prim.Native.Nat.{ℕ, zero, suc, _*_, _^_, _≤_, _<_}
+use native.Mathlib.Decide.{decLt}
+use native.Mathlib.Omega.{arith}
+use mathlib.Core.Path.{_≡_, refl, sym, ap, _∙_, subst}
+use mathlib.Core.Bool.{Bool, true, _&&_, not}
+use mathlib.Core.List.{List, [], _∷_, _++_, map, append-assoc, append-nil}
+use lib.ListN.{length, take, drop}
+use lib.Seq.{take-at}
+use lib.Dec.{T, ltb, eqb, ltb→lt, lt→ltb, eqb→eq}
+use borrow.Author.Tests.{ne-eqb}
+use Rattle.form.specs.Kind.{numeral, blanks}
+use Rattle.form.specs.Form.{Holds, Filled, value, bytes}
+use Rattle.form.specs.Reader.{number}
+use Rattle.form.proofs.BoolLaws.{and-both, or-other}
+use Rattle.form.proofs.KindLaws.{numeral-length, number-numeral}
+use Rattle.form.proofs.RulesLaws.{_▸_, Filling, Told, Says}
+use Rattle.rules.specs.Signs.{ascii}
+use Rattle.rules.specs.Values.{Part, Payment, Totals}
+use Rattle.rules.specs.Rules.{All, Text, mostPayments, mostCents, LegalPayment}
+use Rattle.rules.specs.Writing.{section, toSectionEnd, toNextPart, lengthOf, writeParts, writeBody, writePayment}
+use Rattle.rules.specs.Fields.{firstField}
+use Rattle.rules.proofs.FieldLaws.{key-fits, at-least-one}
+use Rattle.rules.proofs.PartsSays.{markOf}
+use Rattle.rules.proofs.PaymentSays.{GoodPayment, few-parts, payment-says}
+use Rattle.rules.proofs.EndSays.{payment-begins}
+use Rattle.listing.specs.Lines.{tab, lineEnd}
+use Rattle.listing.specs.Listing.{partFields, paymentFields}
+use Rattle.listing.specs.Records.{recordParts, recordC, partsOf, lay, cells, formed}
+use Rattle.listing.specs.Composing.{made, wholePayment, composeLine, composePayment}
+use Rattle.listing.proofs.LineLaws.{Clear, pad-trim}
+use Rattle.listing.proofs.RecordLaws.{span, lay-first, lay-begins}
+use Rattle.listing.proofs.ComposingLaws.{Heard, line-composes, line-heard}
+use Rattle.listing.proofs.PrintedLaws.{AllPrinted, printed-formed, printed-clear, pad-number, number-printed, text-printed}
+
+-- ---- the length of the record
+
+-- what is computed of each number below n holds of every one
+allBelow : (ℕ → Bool) → ℕ → Bool
+allBelow p zero = true
+allBelow p (suc n) = p n && allBelow p n
+
+below : (p : ℕ → Bool) (n i : ℕ) → T (allBelow p n) → i < n → T (p i)
+unfolding allBelow
+below p zero i t h = absurd (omega arith)
+below p (suc n) i t h =
+    let b = and-both (p n) (allBelow p n) t in
+    elim (decLt i n) [ yes l ↦ below p n i b.1 l | no l ↦ let e : i ≡ n = omega arith in rw e b.0 ]
+
+-- 128 bytes for each section
+pub span-C : (k : ℕ) → k ≤ 15 → span (recordC k) ≡ 128 * section k
+unfolding allBelow numeral toSectionEnd toNextPart
+span-C k h = eqb→eq (span (recordC k)) (128 * section k) (below (λ k. eqb (span (recordC k)) (128 * section k)) 16 k tt (omega arith))
+
+-- ---- the fields
+
+parts-laid : (i : ℕ) (ps : List Part) → All (λ (q : Part). Text (q .words)) ps → lay (recordParts i (length ps)) (partFields ps) ≡ writeParts i ps
+parts-laid i [] a = append-nil (blanks (toSectionEnd i))
+parts-laid i (q ∷ qs) a =
+    rw (pad-number 2 (q .mark), pad-trim 27 (q .words) (a .0 .long), parts-laid (suc i) qs a.1, append-nil (writeParts (suc i) qs))
+
+-- made wide they are the record
+pub payment-laid : (kind : List ℕ) (q : Payment) → LegalPayment kind q → lay (recordC (length (q .parts))) (paymentFields q) ≡ writePayment q
+payment-laid kind q l =
+    rw (
+      pad-number 8 (q .firstBank),
+      pad-number 8 (q .bankCode),
+      pad-number 10 (q .account),
+      pad-number 13 (q .customer),
+      pad-number 2 (q .key),
+      pad-number 3 (q .supplement),
+      pad-number 8 (q .senderBank),
+      pad-number 10 (q .senderAccount),
+      pad-number 11 (q .cents),
+      pad-trim 27 (q .beneficiary) (l .C14a .long),
+      pad-trim 27 (q .sender) (l .C15 .long),
+      pad-trim 27 (q .purpose) (l .C16 .long),
+      parts-laid 0 (q .parts) (l .words),
+      append-nil (writeParts 0 (q .parts)),
+    )
+
+parts-printed : (p i : ℕ) (ps : List Part) → All (λ m. (1 ≤ m) × (m ≤ 3)) (map markOf ps) → All (λ (q : Part). Text (q .words)) ps
+    → AllPrinted (cells p (recordParts i (length ps))) (partFields ps)
+parts-printed p i [] m a = tt
+parts-printed p i (q ∷ qs) m a =
+    number-printed 2 (q .mark) (omega (arith, m .0 .1)) ▸ text-printed (q .words) (a .0) ▸ parts-printed _ (suc i) qs m.1 a.1
+
+payment-printed : (kind : List ℕ) (q : Payment) → LegalPayment kind q → AllPrinted (cells 0 (recordC (length (q .parts)))) (paymentFields q)
+payment-printed kind q l =
+    number-printed 8 (q .firstBank) (l .C3)
+    ▸ number-printed 8 (q .bankCode) (l .C4)
+    ▸ number-printed 10 (q .account) (l .C5)
+    ▸ number-printed 13 (q .customer) (l .C6)
+    ▸ number-printed 2 (q .key) (ltb→lt (q .key) 100 (key-fits kind (q .key) (l .C7a)))
+    ▸ number-printed 3 (q .supplement) (l .C7b)
+    ▸ number-printed 8 (q .senderBank) (l .C10)
+    ▸ number-printed 10 (q .senderAccount) (l .C11)
+    ▸ number-printed 11 (q .cents) (l .C12)
+    ▸ text-printed (q .beneficiary) (l .C14a)
+    ▸ text-printed (q .sender) (l .C15)
+    ▸ text-printed (q .purpose) (l .C16)
+    ▸ parts-printed _ 0 (q .parts) (l .marks .each) (l .words)
+
+pub payment-formed : (kind : List ℕ) (q : Payment) → LegalPayment kind q → T (formed (cells 0 (recordC (length (q .parts)))) (paymentFields q))
+payment-formed kind q l = printed-formed (cells 0 (recordC (length (q .parts)))) (paymentFields q) (payment-printed kind q l)
+
+pub payment-clear : (kind : List ℕ) (q : Payment) → LegalPayment kind q → Clear tab (paymentFields q) × Clear lineEnd (paymentFields q)
+payment-clear kind q l = printed-clear (cells 0 (recordC (length (q .parts)))) (paymentFields q) (payment-printed kind q l)
+
+-- their number tells the number of parts
+part-fields : (ps : List Part) → length (partFields ps) ≡ 2 * length ps
+part-fields [] = refl
+part-fields (q ∷ qs) = let i = part-fields qs in omega arith
+
+pub parts-counted : (q : Payment) → length (q .parts) ≤ 15 → partsOf (length (ascii "C" ∷ paymentFields q)) ≡ length (q .parts)
+parts-counted q h = let i = part-fields (q .parts) in omega arith
+
+-- ---- C with its length
+
+-- a payment that may begin after payments that come to t
+pub record Next (kind : List ℕ) (t : Totals) (q : Payment) : Type 0 where
+  pub may : t .count < mostPayments
+  pub good : GoodPayment kind t (lengthOf (length (q .parts))) q
+
+module _ (kind : List ℕ) (t : Totals) where
+  next-fill : (q : Payment) → Next kind t q → Filling (wholePayment kind t) q (writePayment q)
+  next-fill q n =
+      let k = length (q .parts) in
+      let l : ℕ = lengthOf k in
+      let g = n .good in
+      let few = few-parts kind q (g .legal) in
+      let room : t .cents < mostCents = omega (arith, g .cents, at-least-one (q .cents) (g .legal .C12-some)) in
+      let f = payment-says kind t l .fill q g in
+      (((l, lt→ltb l (10 ^ 4) (omega arith), payment-begins t k few (n .may) room), f.0), f.1, ap (λ (b : List ℕ). numeral 4 l ++ b) f.2)
+
+  -- no length of C is that of E, so that the limit of payments is looked at
+  may-begin : (l k : ℕ) → lengthOf k ≡ l → Holds (firstField t l) → t .count < mostPayments
+  may-begin l k e h =
+      let no : T (not (eqb l 128)) = rw (ne-eqb l 128 (omega arith)) tt in
+      ltb→lt (t .count) mostPayments (or-other (eqb l 128) (ltb (t .count) mostPayments) no (h .1 .0))
+
+  next-told : (r : Filled (wholePayment kind t)) → Told (Next kind t) writePayment (value (wholePayment kind t) r) (bytes (wholePayment kind t) r)
+  next-told r =
+      let l : ℕ = r .0 .0 in
+      let d = payment-says kind t l .told (r .1) in
+      let q = d.0 in
+      let g = d.1 in (
+        q,
+        record {
+          may = may-begin l (length (q .parts)) (g .long) (r .0 .2);
+          good = subst (λ (n : ℕ). GoodPayment kind t n q) (sym (g .long)) g;
+        },
+        d.2,
+        rw (d.3, g .long),
+      )
+
+  next-says : Says (wholePayment kind t) (Next kind t) writePayment
+  next-says = record { fill = next-fill; told = next-told }
+
+-- ---- the line
+
+pub payment-composes : (kind : List ℕ) (t : Totals) (p : ℕ) (q : Payment) → t .count < mostPayments
+    → GoodPayment kind t (lengthOf (length (q .parts))) q → composePayment kind t p (ascii "C" ∷ paymentFields q) ≡ made q
+unfolding composePayment
+payment-composes kind t p q m g =
+    let l = g .legal in
+    let k = length (q .parts) in
+    ap (λ (n : ℕ). composeLine (wholePayment kind t) (ascii "C") (recordC n) p (ascii "C" ∷ paymentFields q)) (parts-counted q (few-parts kind q l))
+    ∙ line-composes (wholePayment kind t) (Next kind t) writePayment (next-says kind t) (ascii "C") (recordC k) p (paymentFields q) q
+    (payment-formed kind q l) (record { may = m; good = g }) (payment-laid kind q l)
+
+pub record PaymentHeard (kind : List ℕ) (t : Totals) (ts : List (List ℕ)) (q : Payment) : Type 0 where
+  pub may : t .count < mostPayments
+  pub good : GoodPayment kind t (lengthOf (length (q .parts))) q
+  pub fields : ts ≡ ascii "C" ∷ paymentFields q
+  pub parts : partsOf (length ts) ≡ length (q .parts)
+
+-- a record with k parts that begins with a payment begins with its C1, so that the payment has k parts
+same-parts : (k : ℕ) (ts : List (List ℕ)) (q : Payment) (rest : List ℕ) → k ≤ 15 → length (q .parts) ≤ 15
+    → lay (recordC k) ts ≡ writePayment q ++ rest → k ≡ length (q .parts)
+same-parts k ts q rest h i e =
+    let j = length (q .parts) in
+    let c : numeral 4 (lengthOf k) ≡ numeral 4 (lengthOf j)
+    = sym (lay-first 4 (numeral 4 (lengthOf k)) (drop 1 (recordC k)) ts (numeral-length 4 (lengthOf k)))
+    ∙ ap (take 4) (e ∙ append-assoc (numeral 4 (lengthOf j)) (writeBody q) rest)
+    ∙ take-at (numeral 4 (lengthOf j)) (writeBody q ++ rest) 4 (numeral-length 4 (lengthOf j)) in
+    let l : lengthOf k ≡ lengthOf j
+    = sym (number-numeral 4 (lengthOf k) (omega arith)) ∙ ap number c ∙ number-numeral 4 (lengthOf j) (omega arith) in
+    omega arith
+
+-- with so many parts, its fields are those of the line
+heard-fields : (kind : List ℕ) (t : Totals) (ts : List (List ℕ)) (q : Payment)
+    → Heard (Next kind t) writePayment (ascii "C") (recordC (length (q .parts))) ts q → ts ≡ ascii "C" ∷ paymentFields q
+heard-fields kind t ts q x =
+    let l = x .legal .good .legal in
+    let ps = recordC (length (q .parts)) in
+    let laid : lay ps (x .fields) ≡ lay ps (paymentFields q) ++ x .rest
+    = x .laid ∙ ap (λ (b : List ℕ). b ++ x .rest) (sym (payment-laid kind q l)) in
+    let same = lay-begins ps (x .fields) (paymentFields q) (x .rest) (x .formed) (payment-formed kind q l) laid in
+    x .line ∙ ap (λ (us : List (List ℕ)). ascii "C" ∷ us) same
+
+pub payment-heard : (kind : List ℕ) (t : Totals) (p : ℕ) (ts : List (List ℕ)) (q : Payment) → composePayment kind t p ts ≡ made q
+    → PaymentHeard kind t ts q
+unfolding composePayment
+payment-heard kind t p ts q e =
+    let k = partsOf (length ts) in
+    let x = line-heard (wholePayment kind t) (Next kind t) writePayment (next-says kind t) (ascii "C") (recordC k) p ts q e in
+    let few = few-parts kind q (x .legal .good .legal) in
+    let j : k ≡ length (q .parts) = same-parts k (x .fields) q (x .rest) (omega arith) few (x .laid) in
+    record {
+      may = x .legal .may;
+      good = x .legal .good;
+      fields = heard-fields kind t ts q (subst (λ (n : ℕ). Heard (Next kind t) writePayment (ascii "C") (recordC n) ts q) j x);
+      parts = j;
+    }

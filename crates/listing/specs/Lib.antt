@@ -1,0 +1,6 @@
+pub mod Lines
+pub mod Listing
+pub mod Records
+pub mod Composing
+pub mod Endings
+pub mod Cases

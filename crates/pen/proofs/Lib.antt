@@ -1,0 +1,5 @@
+pub mod ReachLaws
+pub mod OverLaws
+pub mod WritingLaws
+pub mod DigitLaws
+pub mod CellLaws
