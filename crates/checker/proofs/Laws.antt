@@ -57,13 +57,13 @@ from-the-start f = record { owed = ap (λ a. checkedOf (outcome a)) (run-read do
 same-totals : (t u : Totals) → t .count ≡ u .count → t .accounts ≡ u .accounts → t .bankCodes ≡ u .bankCodes → t .cents ≡ u .cents → t ≡ u
 same-totals t u n a b c i = record { count = n i; accounts = a i; bankCodes = b i; cents = c i }
 
-together-none : (u : Totals) → together noTotals u ≡ u
+pub together-none : (u : Totals) → together noTotals u ≡ u
 together-none u = same-totals (together noTotals u) u (omega arith) (omega arith) (omega arith) (omega arith)
 
-together-nothing : (t : Totals) → together t (totals []) ≡ t
+pub together-nothing : (t : Totals) → together t (totals []) ≡ t
 together-nothing t = same-totals (together t (totals [])) t (omega arith) (omega arith) (omega arith) (omega arith)
 
-together-more : (t : Totals) (p : Payment) (ps : List Payment) → together t (totals (p ∷ ps)) ≡ together (adding t p) (totals ps)
+pub together-more : (t : Totals) (p : Payment) (ps : List Payment) → together t (totals (p ∷ ps)) ≡ together (adding t p) (totals ps)
 together-more t p ps = same-totals (together t (totals (p ∷ ps))) (together (adding t p) (totals ps)) (omega arith) (omega arith) (omega arith) (omega arith)
 
 -- ---- from A to the payments

@@ -1,0 +1,9 @@
+pub mod TrimLaws
+pub mod DigitLaws
+pub mod LineLaws
+pub mod PrintLaws
+pub mod RecordLaws
+pub mod ListingLaws
+pub mod LoopLaws
+pub mod ListLaws
+pub mod Answers

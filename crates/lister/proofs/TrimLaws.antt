@@ -1,0 +1,63 @@
+-- A text without its trailing blanks, found from its end: what a loop over it keeps, and where it stops.
+-- Assumes nothing.
+use Prim.Native.Nat.{ℕ, suc, _-_, _≤_, _<_}
+use native.Mathlib.Omega.{arith}
+use mathlib.Core.Path.{_≡_, refl, sym, ap, _∙_}
+use mathlib.Core.Logic.{_≢_}
+use mathlib.Core.Bool.{Bool, true, false, _&&_}
+use mathlib.Core.List.{List, [], _∷_, _++_}
+use lib.ListN.{length, take, getD}
+use lib.Seq.{length-take-le, take-length, take-suc}
+use lib.Dec.{eqb}
+use borrow.Author.Tests.{ne-eqb}
+use Rattle.listing.specs.Lines.{empty, trim}
+
+-- a blank at the end is taken away
+trim-blank : (xs : List ℕ) → trim (xs ++ (32 ∷ [])) ≡ trim xs
+unfolding trim
+trim-blank [] = refl
+trim-blank (x ∷ xs) = rw (trim-blank xs)
+
+-- any other byte there keeps all before it
+trim-sign : (xs : List ℕ) (b : ℕ) → eqb b 32 ≡ false → trim (xs ++ (b ∷ [])) ≡ xs ++ (b ∷ [])
+unfolding trim
+trim-sign [] b e = rw e
+trim-sign (x ∷ xs) b e = rw (trim-sign xs b e, not-empty xs, and-no (eqb x 32))
+  where
+    not-empty : (ys : List ℕ) → empty (ys ++ (b ∷ [])) ≡ false
+    not-empty [] = refl
+    not-empty (y ∷ ys) = refl
+
+    and-no : (t : Bool) → (t && false) ≡ false
+    and-no true = refl
+    and-no false = refl
+
+-- there is nothing but blanks from i on
+pub record Trimming (t : List ℕ) (i : ℕ) : Type 0 where
+  pub inside : i ≤ length t
+  pub rest : trim t ≡ trim (take i t)
+
+pub trim-start : (t : List ℕ) → Trimming t (length t)
+trim-start t = record { inside = omega arith; rest = ap trim (sym (take-length t)) }
+
+module _ {t : List ℕ} {i : ℕ} (w : Trimming t i) (h : 0 < i) where
+  one-fewer : take i t ≡ take (i - 1) t ++ (getD t (i - 1) 0 ∷ [])
+  one-fewer =
+      let e : i ≡ suc (i - 1) = omega arith in
+      let l : i - 1 < length t = omega (arith, w .inside) in
+      ap (λ n. take n t) e ∙ take-suc t (i - 1) 0 l
+
+  pub trim-more : getD t (i - 1) 0 ≡ 32 → Trimming t (i - 1)
+  trim-more b = record {
+    inside = omega (arith, w .inside);
+    rest = w .rest ∙ ap trim one-fewer ∙ ap (λ b. trim (take (i - 1) t ++ (b ∷ []))) b ∙ trim-blank (take (i - 1) t);
+  }
+
+  pub trim-stop : getD t (i - 1) 0 ≢ 32 → i ≡ length (trim t)
+  trim-stop n =
+      let b = getD t (i - 1) 0 in
+      sym (ap length (w .rest ∙ ap trim one-fewer ∙ trim-sign (take (i - 1) t) b (ne-eqb b 32 n) ∙ sym one-fewer) ∙ length-take-le i t (w .inside))
+
+pub trim-all : {t : List ℕ} {i : ℕ} → Trimming t i → i ≤ 0 → 0 ≡ length (trim t)
+unfolding trim
+trim-all {t} {i} w h = let e : i ≡ 0 = omega arith in sym (ap length (w .rest) ∙ rw e)
