@@ -1,4 +1,5 @@
 pub mod BoolLaws
+pub mod BelowLaws
 pub mod AnswerLaws
 pub mod KindLaws
 pub mod ReaderLaws

@@ -10,16 +10,17 @@ use lib.Seq.{drop-drop, drop-at}
 use lib.Dec.{T}
 use Rattle.form.specs.Kind.{every, digit}
 use Rattle.form.specs.Reader.{number}
-use Rattle.rules.specs.Values.{Payment, Document, totals}
+use Rattle.rules.specs.Values.{Payment, Document, Totals, totals}
 use Rattle.rules.specs.Rules.{All, LegalPayment}
 use Rattle.rules.specs.Writing.{section, writeHeader, writePayment, writePayments, writeEnd, Acceptable}
-use Rattle.rules.specs.Answer.{answer, outcome}
+use Rattle.rules.specs.Answer.{answer}
 use Rattle.rules.proofs.PaymentSays.{few-parts}
 use Rattle.rules.proofs.LayoutLaws.{header-length}
 use Rattle.rules.proofs.Demand1.{zero-exactly}
+use Rattle.rules.proofs.Demand2.{totals-are}
 use Rattle.rules.proofs.Demand3.{accepted-reading}
 use Rattle.listing.specs.Listing.{headerLine, paymentLine, paymentLines, listing}
-use Rattle.listing.specs.Endings.{listed, bytesOf}
+use Rattle.listing.specs.Endings.{writes, listed, bytesOf}
 use Rattle.lister.specs.Printing.{lineAt, Lies, Accepted}
 use Rattle.lister.proofs.RecordLaws.{header-lies, header-line, header-short, payment-inside, parts-known, parts-told}
 use Rattle.lister.proofs.RecordLaws.{payment-lies, payment-line, payment-bytes, payment-short}
@@ -84,6 +85,11 @@ payments-short kind (q ∷ qs) a =
 
 -- ---- the file
 
+-- an acceptable one is listed as its document
+pub listed-as : (f : List ℕ) (x : Acceptable f) → listed (answer f) ≡ writes (listing (x .0))
+unfolding listed
+listed-as f x = rw (accepted-reading f x)
+
 -- the bytes of its listing
 abbrev pub listingOf : List ℕ → List ℕ
 listingOf f = bytesOf (listed (answer f))
@@ -113,8 +119,7 @@ module _ (n : ℕ) (f : List ℕ) (a : Accepted n f) where
   A-lies = header-lies (d .header) (found .1 .header) f behindA starts-with-A
 
   listing-is : listingOf f ≡ listing d
-  unfolding listed
-  listing-is = rw (accepted-reading f found)
+  listing-is = ap bytesOf (listed-as f found)
 
   listing-short : length (listingOf f) ≤ length f
   listing-short =
@@ -127,9 +132,8 @@ module _ (n : ℕ) (f : List ℕ) (a : Accepted n f) where
 
   -- behind the line of A
   pub stand-start : Standing f n [] 128 0
-  unfolding outcome
   stand-start =
-      let c : n ≡ length (d .payments) = a .1 ∙ ap (λ x. outcome x .totals .count) (accepted-reading f found) in
+      let c : n ≡ length (d .payments) = a .1 ∙ ap (λ (t : Totals). t .count) (totals-are f found) in
       record {
         left = d .payments;
         count = omega arith;

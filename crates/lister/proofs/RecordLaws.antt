@@ -6,7 +6,7 @@ use mathlib.Core.Path.{_≡_, refl, sym, ap, _∙_}
 use mathlib.Core.Bool.{Bool, true, false, cond}
 use mathlib.Core.List.{List, [], _∷_, _++_, append-assoc, append-nil}
 use lib.ListN.{length, take, drop, length-append, length-drop}
-use lib.Seq.{take-append-add, drop-drop, drop-at, take-at}
+use lib.Seq.{drop-drop, drop-at, take-at}
 use lib.Dec.{T, leb, le→leb}
 use borrow.Author.Tests.{leb-true, leb-false}
 use Rattle.form.specs.Kind.{every, width, digit, numeral, blanks}
@@ -26,6 +26,7 @@ use Rattle.listing.proofs.RecordLaws.{span, cut-laid}
 use Rattle.listing.proofs.HeaderLaws.{span-A, header-laid, header-formed}
 use Rattle.listing.proofs.PaymentLaws.{span-C, payment-laid, payment-formed}
 use Rattle.pen.specs.Walking.{cellsOf}
+use Rattle.pen.proofs.CellLaws.{fields-first}
 use Rattle.lister.specs.Printing.{lineAt, Lies}
 use Rattle.lister.proofs.LineLaws.{across, tabbed-across, line-long}
 
@@ -38,17 +39,6 @@ cells-lie f p s [] h = tt
 cells-lie f p s (own bs ∷ ps) h = cells-lie f p (s + length bs) ps (omega arith)
 cells-lie f p s (told κ ∷ ps) h =
     and-of (leb (p + (s + width κ)) (length f)) _ (le→leb (p + (s + width κ)) (length f) (omega arith)) (cells-lie f p (s + width κ) ps (omega arith))
-
--- fewer parts have the first of the cells that more have
-fewer-parts : (p i k n : ℕ) → k ≤ n → take (2 * k) (cells p (recordParts i n)) ≡ cells p (recordParts i k)
-fewer-parts p i zero n h = refl
-fewer-parts p i (suc k) zero h = absurd (omega arith)
-fewer-parts p i (suc k) (suc n) h = let e : 2 * suc k ≡ suc (suc (2 * k)) = omega arith in rw (e, fewer-parts _ (suc i) k n (omega arith))
-
-cells-first : (k : ℕ) → k ≤ 15 → take (12 + 2 * k) (cellsOf false) ≡ cells 0 (recordC k)
-unfolding numeral
-cells-first k h =
-    take-append-add (cells 0 (recordC 0)) (cells 187 (recordParts 0 15)) (2 * k) ∙ ap (λ cs. cells 0 (recordC 0) ++ cs) (fewer-parts 187 0 k 15 h)
 
 -- bytes that stand at p end in the file
 stand-inside : (f : List ℕ) (p : ℕ) (bs rest : List ℕ) → drop p f ≡ bs ++ rest → 1 ≤ length bs → p + length bs ≤ length f
@@ -138,11 +128,11 @@ module _ {kind : List ℕ} (q : Payment) (l : LegalPayment kind q) where
     payment-lies =
         let i = payment-inside in
         let n : length (cellsOf false) ≡ 42 = refl in
-        (omega (arith, few), rw (cells-first k few) (cells-lie f p 0 (recordC k) (omega (arith, payment-length kind q l, span-C k few))))
+        (omega (arith, few), rw (← fields-first k few) (cells-lie f p 0 (recordC k) (omega (arith, payment-length kind q l, span-C k few))))
 
     pub payment-line : lineAt false (12 + 2 * k) f p ≡ paymentLine q
     payment-line =
-        ap (λ cs. line (ascii "C") (cut f p cs)) (cells-first k few)
+        ap (λ cs. line (ascii "C") (cut f p cs)) (sym (fields-first k few))
         ∙ ap (line (ascii "C"))
         (cut-laid f p (recordC k) (paymentFields q) rest (payment-formed kind q l) (s ∙ ap (λ bs. bs ++ rest) (sym (payment-laid kind q l))))
 
@@ -154,6 +144,6 @@ module _ {kind : List ℕ} (q : Payment) (l : LegalPayment kind q) where
   payment-short =
       let f = writePayment q in
       let e = ap length (payment-line f 0 [] (sym (append-nil f))) in
-      let a = ap across (cells-first k few) ∙ record-across k in
+      let a = ap across (sym (fields-first k few)) ∙ record-across k in
       let t = tabbed-across f 0 (take (12 + 2 * k) (cellsOf false)) in
       omega (arith, line-long false (12 + 2 * k) f 0, payment-length kind q l, sections-wide k)

@@ -4,13 +4,14 @@ use Prim.Native.Nat.{ℕ, suc, _-_, _≤_, _<_}
 use native.Mathlib.Omega.{arith}
 use mathlib.Core.Path.{_≡_, refl, sym, ap, _∙_}
 use mathlib.Core.Logic.{_≢_}
-use mathlib.Core.Bool.{Bool, true, false, _&&_}
+use mathlib.Core.Bool.{false}
 use mathlib.Core.List.{List, [], _∷_, _++_}
 use lib.ListN.{length, take, getD}
 use lib.Seq.{length-take-le, take-length, take-suc}
 use lib.Dec.{eqb}
 use borrow.Author.Tests.{ne-eqb}
-use Rattle.listing.specs.Lines.{empty, trim}
+use Rattle.listing.specs.Lines.{trim, endsInBlank}
+use Rattle.listing.proofs.LineLaws.{pad-whole, trim-pad}
 
 -- a blank at the end is taken away
 trim-blank : (xs : List ℕ) → trim (xs ++ (32 ∷ [])) ≡ trim xs
@@ -20,17 +21,14 @@ trim-blank (x ∷ xs) = rw (trim-blank xs)
 
 -- any other byte there keeps all before it
 trim-sign : (xs : List ℕ) (b : ℕ) → eqb b 32 ≡ false → trim (xs ++ (b ∷ [])) ≡ xs ++ (b ∷ [])
-unfolding trim
-trim-sign [] b e = rw e
-trim-sign (x ∷ xs) b e = rw (trim-sign xs b e, not-empty xs, and-no (eqb x 32))
+trim-sign xs b e =
+    let t = xs ++ (b ∷ []) in
+    sym (ap trim (pad-whole (length t) t refl)) ∙ trim-pad (length t) t (rw (last-byte xs, e) tt) (omega arith)
   where
-    not-empty : (ys : List ℕ) → empty (ys ++ (b ∷ [])) ≡ false
-    not-empty [] = refl
-    not-empty (y ∷ ys) = refl
-
-    and-no : (t : Bool) → (t && false) ≡ false
-    and-no true = refl
-    and-no false = refl
+    last-byte : (ys : List ℕ) → endsInBlank (ys ++ (b ∷ [])) ≡ eqb b 32
+    last-byte [] = refl
+    last-byte (x ∷ []) = refl
+    last-byte (x ∷ y ∷ ys) = last-byte (y ∷ ys)
 
 -- there is nothing but blanks from i on
 pub record Trimming (t : List ℕ) (i : ℕ) : Type 0 where

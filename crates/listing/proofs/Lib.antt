@@ -6,4 +6,5 @@ pub mod PrintedLaws
 pub mod HeaderLaws
 pub mod PaymentLaws
 pub mod LinesLaws
+pub mod NumberLaws
 pub mod Rounds

@@ -1,10 +1,9 @@
 -- The line of a C: the fields of a payment that may come next are composed to it, and a line that is composed to a payment has its fields.
 -- Assumes nothing.
-use Prim.Native.Nat.{ℕ, zero, suc, _*_, _^_, _≤_, _<_}
-use native.Mathlib.Decide.{decLt}
+use Prim.Native.Nat.{ℕ, suc, _*_, _^_, _≤_, _<_}
 use native.Mathlib.Omega.{arith}
 use mathlib.Core.Path.{_≡_, refl, sym, ap, _∙_, subst}
-use mathlib.Core.Bool.{Bool, true, _&&_, not}
+use mathlib.Core.Bool.{not}
 use mathlib.Core.List.{List, [], _∷_, _++_, map, append-assoc, append-nil}
 use lib.ListN.{length, take, drop}
 use lib.Seq.{take-at}
@@ -13,7 +12,8 @@ use borrow.Author.Tests.{ne-eqb}
 use Rattle.form.specs.Kind.{numeral, blanks}
 use Rattle.form.specs.Form.{Holds, Filled, value, bytes}
 use Rattle.form.specs.Reader.{number}
-use Rattle.form.proofs.BoolLaws.{and-both, or-other}
+use Rattle.form.proofs.BelowLaws.{below, below-all}
+use Rattle.form.proofs.BoolLaws.{or-other}
 use Rattle.form.proofs.KindLaws.{numeral-length, number-numeral}
 use Rattle.form.proofs.RulesLaws.{_▸_, Filling, Told, Says}
 use Rattle.rules.specs.Signs.{ascii}
@@ -36,22 +36,10 @@ use Rattle.listing.proofs.PrintedLaws.{AllPrinted, printed-formed, prin
 
 -- ---- the length of the record
 
--- what is computed of each number below n holds of every one
-allBelow : (ℕ → Bool) → ℕ → Bool
-allBelow p zero = true
-allBelow p (suc n) = p n && allBelow p n
-
-below : (p : ℕ → Bool) (n i : ℕ) → T (allBelow p n) → i < n → T (p i)
-unfolding allBelow
-below p zero i t h = absurd (omega arith)
-below p (suc n) i t h =
-    let b = and-both (p n) (allBelow p n) t in
-    elim (decLt i n) [ yes l ↦ below p n i b.1 l | no l ↦ let e : i ≡ n = omega arith in rw e b.0 ]
-
 -- 128 bytes for each section
 pub span-C : (k : ℕ) → k ≤ 15 → span (recordC k) ≡ 128 * section k
-unfolding allBelow numeral toSectionEnd toNextPart
-span-C k h = eqb→eq (span (recordC k)) (128 * section k) (below (λ k. eqb (span (recordC k)) (128 * section k)) 16 k tt (omega arith))
+unfolding below numeral toSectionEnd toNextPart
+span-C k h = eqb→eq (span (recordC k)) (128 * section k) (below-all (λ k. eqb (span (recordC k)) (128 * section k)) 16 k tt (omega arith))
 
 -- ---- the fields
 

@@ -133,6 +133,7 @@ cases =
     -- numbers and dates that have not their width, texts of 28 and of 27 signs
     ∷ inA 5 "15032004" 17 0
     ∷ inA 8 "300304" 17 0
+    ∷ inC 2 "3005002" 17 65
     ∷ inC 2 "030050020" 17 65
     ∷ inC 13 "002" 17 65
     ∷ inC 14 "PPPPPPPPPPPPPPPPPPPPPPPPPPPP" 17 65

@@ -1,33 +1,20 @@
 -- The fields of a line, told by tables: those of A, the first twelve of a C, and the mark and the text of each part.
 -- Assumes nothing.
 use Prim.Native.Nat.{ℕ, zero, suc, _+_, _-_, _*_, _/_, _%_, _≤_, _<_}
-use native.Mathlib.Decide.{decLt}
 use native.Mathlib.Omega.{arith}
-use mathlib.Core.Path.{_≡_, refl, sym, ap, _∙_}
+use mathlib.Core.Path.{_≡_, refl, sym, ap, subst, _∙_}
 use mathlib.Core.Bool.{true, false}
-use mathlib.Core.List.{List, [], _∷_, map}
+use mathlib.Core.List.{List, [], _∷_}
 use mathlib.Core.Option.{none}
-use lib.ListN.{length, getD, getElem?}
+use lib.ListN.{length, getD, getElem?, take}
 use lib.Dec.{leb, eqb}
 use borrow.Author.Tests.{leb-true}
 use Rattle.form.specs.Kind.{numeral}
+use Rattle.form.proofs.BelowLaws.{below, agree}
 use Rattle.rules.specs.Writing.{toSectionEnd, toNextPart}
-use Rattle.listing.specs.Records.{cells}
+use Rattle.listing.specs.Records.{recordParts, recordC, cells}
 use Rattle.pen.specs.declared.Cell.{Cell}
-use Rattle.pen.specs.Walking.{recordOf, cellOf, cellAt}
-
--- ---- every number below n
-
-below : ℕ → List ℕ
-below zero = []
-below (suc n) = n ∷ below n
-
--- two functions that give the same list of them give the same for each
-agree : {X : Type 0} (f g : ℕ → X) (n i : ℕ) → map f (below n) ≡ map g (below n) → i < n → f i ≡ g i
-unfolding below
-agree f g zero i e h = absurd (omega arith)
-agree f g (suc n) i e h =
-    elim (decLt i n) [ yes l ↦ agree f g n i (cc) l | no l ↦ let k : i ≡ n = omega arith in let o : f n ≡ g n = cc in rw k o ]
+use Rattle.pen.specs.Walking.{recordOf, cellOf, cellsOf, cellAt}
 
 beyond : {X : Type 0} (l : List X) (i : ℕ) → length l ≤ i → getElem? l i ≡ none
 beyond [] i h = refl
@@ -123,3 +110,21 @@ module _ (i m : ℕ) (l : 12 ≤ i) (h : i < 42) (e : m ≡ mark ((i - 12) / 2))
   text-of-part odd =
       let s : 13 + 2 * ((i - 12) / 2) ≡ i = omega arith in
       ap (λ (n : ℕ). textAt (n + 2)) e ∙ text-cell ((i - 12) / 2) (omega arith) ∙ ap (cellAt false) s
+
+-- ---- a C of k parts
+
+parts-first : (k more p i : ℕ) → cells p (recordParts i k) ≡ take (2 * k) (cells p (recordParts i (k + more)))
+parts-first zero more p i = refl
+parts-first (suc k) more p i =
+    let two : 2 * suc k ≡ suc (suc (2 * k)) = omega arith in
+    let all : suc k + more ≡ suc (k + more) = omega arith in
+    rw (two, all, parts-first k more _ (suc i))
+
+-- it has the first of the fields that the longest has
+pub fields-first : (k : ℕ) → k ≤ 15 → cells 0 (recordC k) ≡ take (12 + 2 * k) (cellsOf false)
+unfolding numeral
+fields-first k h =
+    let twelve : 12 + 2 * k ≡ suc (suc (suc (suc (suc (suc (suc (suc (suc (suc (suc (suc (2 * k)))))))))))) = omega arith in
+    let all : k + (15 - k) ≡ 15 = omega arith in
+    let parts = subst (λ n. cells 187 (recordParts 0 k) ≡ take (2 * k) (cells 187 (recordParts 0 n))) all (parts-first k (15 - k) 187 0) in
+    rw (twelve, parts)

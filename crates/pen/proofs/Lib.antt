@@ -3,3 +3,4 @@ pub mod OverLaws
 pub mod WritingLaws
 pub mod DigitLaws
 pub mod CellLaws
+pub mod EndingLaws

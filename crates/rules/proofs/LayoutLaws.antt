@@ -1,15 +1,12 @@
 -- The layout: A and E take 128 bytes, a payment takes 128 for each of its sections, and a section with no part in it is not written.
-use Prim.Native.Nat.{ℕ, zero, suc, _+_, _-_, _*_, _≤_, _<_}
+use Prim.Native.Nat.{ℕ, suc, _+_, _-_, _*_, _≤_, _<_}
 use native.Mathlib.Omega.{arith}
-use native.Mathlib.Decide.{decLt}
 use mathlib.Core.Path.{_≡_, refl}
 use mathlib.Core.Option.{Option, none, some}
-use mathlib.Core.Bool.{Bool}
 use mathlib.Core.List.{List, [], _∷_}
 use lib.ListN.{length, length-append, length-replicate}
-use lib.Dec.{T, eqb, eqb→eq}
-use Rattle.form.specs.Kind.{every}
-use Rattle.form.proofs.BoolLaws.{and-both}
+use lib.Dec.{eqb, eqb→eq}
+use Rattle.form.proofs.BelowLaws.{below, below-all}
 use Rattle.form.proofs.KindLaws.{numeral-length}
 use Rattle.rules.specs.Calendar.{Day}
 use Rattle.rules.specs.Values.{Header, Part, Payment, Totals}
@@ -31,28 +28,16 @@ end-length t = simp (length-append, numeral-length) (omega arith)
 
 -- ---- the parts
 
--- what is computed of each number below n holds of every one
-upTo : ℕ → List ℕ
-upTo zero = []
-upTo (suc n) = n ∷ upTo n
-
-below-all : (p : ℕ → Bool) (n i : ℕ) → T (every p (upTo n)) → i < n → T (p i)
-unfolding upTo
-below-all p zero i t h = absurd (omega arith)
-below-all p (suc n) i t h =
-    let b = and-both (p n) (every p (upTo n)) t in
-    elim (decLt i n) [ yes l ↦ below-all p n i b.1 l | no l ↦ let e : i ≡ n = omega arith in rw e b.0 ]
-
 -- the bytes of a payment through part i
 through : ℕ → ℕ
 through i = 128 * section i - toSectionEnd i
 
 part-step : (i : ℕ) → i < 15 → through (suc i) ≡ through i + toNextPart i + 29
-unfolding through toSectionEnd toNextPart upTo
+unfolding through toSectionEnd toNextPart below
 part-step i h = eqb→eq (through (suc i)) (through i + toNextPart i + 29) (below-all (λ i. eqb (through (suc i)) (through i + toNextPart i + 29)) 15 i tt h)
 
 closed : (i : ℕ) → i < 16 → through i + toSectionEnd i ≡ 128 * section i
-unfolding through toSectionEnd upTo
+unfolding through toSectionEnd below
 closed i h = eqb→eq (through i + toSectionEnd i) (128 * section i) (below-all (λ i. eqb (through i + toSectionEnd i) (128 * section i)) 16 i tt h)
 
 parts-length : (i : ℕ) (ps : List Part) → i + length ps ≤ 15 → All (λ (q : Part). Text (q .words)) ps → through i + length (writeParts i ps) ≡ 128 * section (i + length ps)

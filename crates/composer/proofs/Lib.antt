@@ -1,0 +1,16 @@
+pub mod WalkLaws
+pub mod ByteLaws
+pub mod FormLaws
+pub mod LayLaws
+pub mod OwnLaws
+pub mod EndLaws
+pub mod PutLaws
+pub mod HeardLaws
+pub mod ToldLaws
+pub mod StepLaws
+pub mod ReadingLaws
+pub mod FirstLineLaws
+pub mod WritingLaws
+pub mod FileLaws
+pub mod CallLaws
+pub mod Answers

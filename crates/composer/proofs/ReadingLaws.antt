@@ -1,0 +1,159 @@
+-- The lines of payments as the loop over them goes: where it stands, what it owes, and how a line takes it on or ends it.
+-- Assumes nothing.
+use Prim.Native.Nat.{ℕ, _+_, _-_, _*_, _≤_, _<_}
+use native.Mathlib.Omega.{arith}
+use native.Mathlib.Nat.{add-assoc, add-zero}
+use mathlib.Core.Path.{_≡_, refl, sym, ap, ap₂, _∙_, subst}
+use mathlib.Core.Logic.{_≢_}
+use mathlib.Core.Bool.{false}
+use mathlib.Core.List.{List, [], _∷_}
+use lib.ListN.{length, drop, length-append, length-drop, drop-of-length-le}
+use lib.Dec.{leb}
+use borrow.Author.Tests.{le-leb}
+use Rattle.rules.specs.Values.{Payment, Totals, noTotals, adding}
+use Rattle.rules.specs.Rules.{mostPayments}
+use Rattle.rules.specs.Writing.{section, writePayment, writePayments}
+use Rattle.rules.proofs.PaymentSays.{few-parts}
+use Rattle.rules.proofs.LayoutLaws.{payment-length}
+use Rattle.fields.specs.declared.Refusal.{Refusal}
+use Rattle.fields.specs.declared.FileKind.{FileKind}
+use Rattle.fields.specs.Answers.{refusalOf, lettersOf}
+use Rattle.fields.proofs.AnswerLaws.{zero-one}
+use Rattle.sums.specs.declared.Sums.{Sums}
+use Rattle.sums.specs.Sums.{totalsOf}
+use Rattle.payment.specs.declared.PaymentRead.{PaymentRead}
+use Rattle.payment.specs.declared.PaymentRead.the-variants as payment
+use Rattle.payment.specs.Adding.{withPayment, paymentWhy}
+use Rattle.checker.specs.Checking.{sumsOf}
+use Rattle.checker.proofs.Laws.{together-nothing, together-more}
+use Rattle.listing.specs.Lines.{tab, lineEnd, split, empty}
+use Rattle.listing.specs.Composing.{Composed, made, denied, andThen, provided, composePayment, composePayments}
+use Rattle.listing.proofs.PaymentLaws.{payment-heard}
+use Rattle.pen.specs.Walking.{reach}
+use Rattle.composer.specs.declared.LinesRead.{LinesRead}
+use Rattle.composer.specs.declared.LinesRead.the-variants as lines
+use Rattle.composer.specs.Telling.{paymentTold, paymentsTold}
+use Rattle.composer.proofs.ToldLaws.{longest, min-is}
+use Rattle.composer.proofs.StepLaws.{lineTo, last-piece, line-within, onward, step}
+
+-- what is owed of the lines from p on, after payments that come to t and take so many bytes
+abbrev pub owed : List ℕ → List ℕ → Totals → ℕ → ℕ → LinesRead
+owed l letters t size p = paymentsTold t size (composePayments letters t p (split lineEnd (drop p l)))
+
+pub record Reading (l : List ℕ) (kind : FileKind) (start count : ℕ) (sums : Sums) (size p : ℕ) : Type 0 where
+  pub inside : p ≤ length l
+  pub few : count ≤ mostPayments
+  pub small : size ≤ 768 * count
+  pub rest : owed l (lettersOf kind) noTotals 0 start ≡ owed l (lettersOf kind) (totalsOf count sums) size p
+
+pub reading-first : (l : List ℕ) (kind : FileKind) (start : ℕ) → start ≤ length l → Reading l kind start 0 (sumsOf noTotals) 0 start
+reading-first l kind start h = record { inside = h; few = omega arith; small = omega arith; rest = refl }
+
+-- ---- a line
+
+told-more : (t : Totals) (size : ℕ) (q : Payment) (c : Composed (List Payment))
+    → paymentsTold t size (andThen c (λ qs. made (q ∷ qs))) ≡ paymentsTold (adding t q) (size + length (writePayment q)) c
+told-more t size q (made qs) =
+    let e : size + length (writePayments (q ∷ qs)) ≡ size + length (writePayment q) + length (writePayments qs)
+    = ap (λ n. size + n) (length-append (writePayment q) (writePayments qs)) ∙ sym (add-assoc size (length (writePayment q)) (length (writePayments qs))) in
+    ap₂ (λ (u : Totals) (n : ℕ). lines.Are (u .count) (sumsOf u) n) (together-more t q qs) e
+told-more t size q (denied n p) = refl
+
+-- what a payment's line tells
+pub record Heard (letters : List ℕ) (t : Totals) (sums new : Sums) (p bytes : ℕ) (x : List ℕ) : Type 0 where
+  pub payment : Payment
+  pub composed : composePayment letters t p (split tab x) ≡ made payment
+  pub added : new ≡ withPayment sums payment
+  pub size : bytes ≡ length (writePayment payment)
+
+module _ (letters : List ℕ) (t : Totals) (sums : Sums) (p : ℕ) (x : List ℕ) {a : PaymentRead} (told : a ≡ paymentTold sums (composePayment letters t p (split tab x))) where
+  pub heard-is : {new : Sums} {bytes : ℕ} → a ≡ payment.Is new bytes → Heard letters t sums new p bytes x
+  heard-is {new} {bytes} given = by (composePayment letters t p (split tab x)) refl (sym told ∙ given)
+    where
+      by : (c : Composed Payment) → composePayment letters t p (split tab x) ≡ c → paymentTold sums c ≡ payment.Is new bytes → Heard letters t sums new p bytes x
+      by (made q) e g = record { payment = q; composed = e; added = cc; size = cc }
+      by (denied n q) e g = absurd (zero-one cc)
+
+  pub heard-refused : {y r : Refusal} → a ≡ payment.Refused y → r ≡ paymentWhy a → (n q : ℕ) × (composePayment letters t p (split tab x) ≡ denied n q) × (r ≡ refusalOf n q)
+  heard-refused {y} {r} given w = by (composePayment letters t p (split tab x)) refl (sym told ∙ given)
+    where
+      by : (c : Composed Payment) → composePayment letters t p (split tab x) ≡ c → paymentTold sums c ≡ payment.Refused y
+          → (n q : ℕ) × (composePayment letters t p (split tab x) ≡ denied n q) × (r ≡ refusalOf n q)
+      by (made q) e g = absurd (zero-one cc)
+      by (denied n q) e g = (n, q, e, w ∙ ap paymentWhy (given ∙ sym g))
+
+module _ {l : List ℕ} {kind : FileKind} {start count : ℕ} {sums : Sums} {size p : ℕ} (reading : Reading l kind start count sums size p) (e : ℕ) (ends : e ≡ p + reach lineEnd (drop p l)) where
+  abbrev t : Totals
+  t = totalsOf count sums
+
+  module _ (more : e ≢ length l) where
+    stepped : composePayments (lettersOf kind) t p (split lineEnd (drop p l)) ≡ onward l p e (reading .inside) ends more (lettersOf kind) t (composePayment (lettersOf kind) t p (split tab (lineTo l p e)))
+    stepped = step l p e (reading .inside) ends more (lettersOf kind) t
+
+    -- it tells a payment
+    module _ {new : Sums} {bytes : ℕ} (h : Heard (lettersOf kind) t sums new p bytes (lineTo l p e)) where
+      abbrev q : Payment
+      q = h .payment
+
+      pub one-more : count < mostPayments
+      one-more = payment-heard (lettersOf kind) t p (split tab (lineTo l p e)) q (h .composed) .may
+
+      pub record-small : bytes ≤ 768
+      record-small =
+          let g = payment-heard (lettersOf kind) t p (split tab (lineTo l p e)) q (h .composed) in
+          let m = min-is (length (q .parts)) (few-parts (lettersOf kind) q (g .good .legal)) in
+          let n = payment-length (lettersOf kind) q (g .good .legal) in
+          let o = longest (length (q .parts)) in
+          subst (λ n. n ≤ 768) (ap (λ k. 128 * section k) m ∙ sym n ∙ sym (h .size)) o
+
+      pub reading-more : Reading l kind start (count + 1) new (size + bytes) (e + 1)
+      reading-more =
+          let w = line-within l p e (reading .inside) ends more in
+          let s = reading .small in
+          let r = record-small in
+          let n = one-more in
+          record {
+            inside = omega arith;
+            few = omega arith;
+            small = omega arith;
+            rest =
+                reading .rest ∙ ap (paymentsTold t size) (stepped ∙ ap (onward l p e (reading .inside) ends more (lettersOf kind) t) (h .composed))
+                ∙ told-more t size q (composePayments (lettersOf kind) (adding t q) (e + 1) (split lineEnd (drop (e + 1) l)))
+                ∙ ap₂ (λ (s : Sums) (n : ℕ). owed l (lettersOf kind) (totalsOf (count + 1) s) (size + n) (e + 1)) (sym (h .added)) (sym (h .size));
+          }
+
+    -- it is refused
+    pub reading-refused : {r : Refusal} {n at : ℕ} → composePayment (lettersOf kind) t p (split tab (lineTo l p e)) ≡ denied n at → r ≡ refusalOf n at
+        → lines.Refused r ≡ owed l (lettersOf kind) noTotals 0 start
+    reading-refused d w = ap lines.Refused w ∙ sym (reading .rest ∙ ap (paymentsTold t size) (stepped ∙ ap (onward l p e (reading .inside) ends more (lettersOf kind) t) d))
+
+  -- ---- the end
+
+  module _ (last : e ≡ length l) where
+    one-piece : split lineEnd (drop p l) ≡ drop p l ∷ []
+    one-piece = last-piece l p e (reading .inside) ends last
+
+    -- bytes follow the last line
+    pub reading-cut : p < length l → {r : Refusal} → r ≡ refusalOf 17 p → lines.Refused r ≡ owed l (lettersOf kind) noTotals 0 start
+    unfolding composePayments
+    reading-cut h w = ap lines.Refused w ∙ sym (reading .rest ∙ ap (λ xs. paymentsTold t size (composePayments (lettersOf kind) t p xs)) one-piece ∙ rw (filled (drop p l) (omega (arith, length-drop p l))))
+      where
+        filled : (x : List ℕ) → 0 < length x → empty x ≡ false
+        filled [] g = absurd (omega arith)
+        filled (b ∷ bs) g = refl
+
+    module _ (h : length l ≤ p) where
+      at-end : composePayments (lettersOf kind) t p (split lineEnd (drop p l)) ≡ provided (leb 1 count) 18 p (made [])
+      unfolding composePayments
+      at-end = ap (composePayments (lettersOf kind) t p) one-piece ∙ ap (λ x. composePayments (lettersOf kind) t p (x ∷ [])) (drop-of-length-le l h)
+
+      pub reading-none : count ≡ 0 → {r : Refusal} → r ≡ refusalOf 18 p → lines.Refused r ≡ owed l (lettersOf kind) noTotals 0 start
+      reading-none n w = ap lines.Refused w ∙ sym (reading .rest ∙ ap (paymentsTold t size) at-end ∙ rw n)
+
+      pub reading-ends : count ≢ 0 → lines.Are count sums size ≡ owed l (lettersOf kind) noTotals 0 start
+      reading-ends n =
+          let some : provided {A = List Payment} (leb 1 count) 18 p (made []) ≡ made [] = rw (le-leb 1 count (omega (arith, n))) in
+          sym (
+          reading .rest ∙ ap (paymentsTold t size) (at-end ∙ some)
+          ∙ ap₂ (λ (u : Totals) (n : ℕ). lines.Are (u .count) (sumsOf u) n) (together-nothing t) (add-zero size)
+          )

@@ -1,0 +1,232 @@
+-- Records written into the output one after another, from the lines of a listing that was accepted.
+-- Assumes nothing.
+use Prim.Native.Nat.{ℕ, zero, suc, _+_, _-_, _*_, _≤_, _<_, min}
+use native.Mathlib.Nat.{add-assoc, zero-add}
+use native.Mathlib.Omega.{arith}
+use mathlib.Core.Path.{_≡_, refl, sym, ap, ap₂, _∙_, subst}
+use mathlib.Core.Logic.{_≢_}
+use mathlib.Core.Bool.{true, false}
+use mathlib.Core.List.{List, [], _∷_, _++_, append-assoc, append-nil}
+use lib.ListN.{length, take, drop, length-append, length-drop, take-append-drop, drop-of-length-le}
+use lib.Seq.{drop-drop, length-take-le, take-all}
+use lib.Dec.{leb}
+use borrow.Rule.Slice.PartMut.{putMid, post-is}
+use Rattle.form.specs.Kind.{same}
+use Rattle.form.proofs.BoolLaws.{is-true}
+use Rattle.rules.specs.Values.{Header, Payment, Document, Totals, noTotals, adding}
+use Rattle.rules.specs.Writing.{section, writeHeader, writePayment, writePayments}
+use Rattle.rules.proofs.LayoutLaws.{payment-length}
+use Rattle.fields.proofs.AnswerLaws.{zero-one}
+use Rattle.listing.specs.Lines.{tab, lineEnd, split, empty}
+use Rattle.listing.specs.Listing.{paymentFields}
+use Rattle.listing.specs.Records.{recordA, recordC, lay, cells, formed}
+use Rattle.listing.specs.Composing.{Composed, made, provided, composeHeader, composePayment, composePayments, compose}
+use Rattle.listing.proofs.ComposingLaws.{provided-made, andThen-made}
+use Rattle.listing.proofs.HeaderLaws.{header-heard, header-laid, header-formed}
+use Rattle.listing.proofs.PaymentLaws.{payment-heard, payment-laid, payment-formed}
+use Rattle.pen.specs.Writing.{over}
+use Rattle.pen.specs.Walking.{reach, cellsOf}
+use Rattle.pen.proofs.OverLaws.{over-next, over-length, over-nothing}
+use Rattle.composer.specs.Telling.{lineFormed, behindLetter, FormedLine, linesParts, PaymentLine}
+use Rattle.composer.specs.Writing.{paymentsOf, Accepted}
+use Rattle.pen.proofs.CellLaws.{fields-first}
+use Rattle.composer.proofs.ToldLaws.{few, min-is}
+use Rattle.composer.proofs.FirstLineLaws.{made-lines}
+use Rattle.composer.proofs.StepLaws.{lineTo, last-piece, line-within, here, step}
+
+-- ---- a part of the output that was lent and is back
+
+pub part-over : (p n : ℕ) (new old : List ℕ) → length new ≡ n → putMid p (p + n - p) old new ≡ over p new old
+part-over p n new old e =
+    ap (λ rest. take p old ++ (new ++ rest)) (post-is p (p + n) old (omega arith) ∙ ap (λ m. drop (p + m) old) (sym e))
+
+pub part-long : (p n : ℕ) (old : List ℕ) → p + n ≤ length old → length (take (p + n - p) (drop p old)) ≡ n
+part-long p n old h =
+    let m : p + n - p ≡ n = omega arith in
+    let d = length-drop p old in
+    ap (λ k. length (take k (drop p old))) m ∙ length-take-le n (drop p old) (omega arith)
+
+-- ---- the line of a payment
+
+-- its bytes in the file, by the number k of its parts
+pub bytes-told : (x : List ℕ) {k bytes : ℕ} → k ≡ linesParts x → bytes ≡ 128 * section (min k 15) → bytes ≡ 128 * section (linesParts x)
+bytes-told x parts e = e ∙ ap (λ n. 128 * section n) (min-is _ (omega (arith, parts, few (length (split tab x)))) ∙ parts)
+
+-- its form, and what its record is
+pub record Written (x : List ℕ) (q : Payment) : Type 0 where
+  pub form : PaymentLine x
+  pub bytes : lay (recordC (linesParts x)) (behindLetter (split tab x)) ≡ writePayment q
+  pub size : 128 * section (linesParts x) ≡ length (writePayment q)
+
+pub line-written : (letters : List ℕ) (t : Totals) (p : ℕ) (x : List ℕ) (q : Payment) → composePayment letters t p (split tab x) ≡ made q → Written x q
+line-written letters t p x q e =
+    let h = payment-heard letters t p (split tab x) q e in
+    let legal = h .good .legal in
+    let f : formed (take (12 + 2 * linesParts x) (cellsOf false)) (paymentFields q) ≡ true
+    = ap (λ cs. formed cs (paymentFields q)) (sym (fields-first (linesParts x) (few (length (split tab x)))) ∙ ap (λ k. cells 0 (recordC k)) (h .parts))
+    ∙ is-true _ (payment-formed letters q legal) in
+    let m = few (length (split tab x)) in
+    record {
+      form = (omega arith, (omega arith, ap (lineFormed false (12 + 2 * linesParts x)) (h .fields) ∙ f));
+      bytes = ap₂ (λ k ts. lay (recordC k) (behindLetter ts)) (h .parts) (h .fields) ∙ payment-laid letters q legal;
+      size = ap (λ k. 128 * section k) (h .parts) ∙ sym (payment-length letters q legal);
+    }
+
+-- ---- the line of A
+
+pub head-written : (x : List ℕ) (h : Header) → composeHeader (split tab x) ≡ made h → FormedLine true 8 x × (lay recordA (behindLetter (split tab x)) ≡ writeHeader h)
+head-written x h e =
+    let g = header-heard (split tab x) h e in (
+      (omega arith, (omega arith, ap (lineFormed true 8) g.1 ∙ is-true _ (header-formed h g.0))),
+      ap (λ ts. lay recordA (behindLetter ts)) g.1 ∙ header-laid h g.0,
+    )
+
+-- ---- payments
+
+written-more : (ps : List Payment) (row : ℕ) (q : Payment) (qs : List Payment) → drop row ps ≡ q ∷ qs
+    → writePayments (take (row + 1) ps) ≡ writePayments (take row ps) ++ writePayment q
+written-more [] row q qs e = let none : [] ≡ q ∷ qs = sym (drop-of-length-le [] {i = row} (omega arith)) ∙ e in absurd (zero-one cc)
+written-more (x ∷ xs) zero q qs e = let same : x ≡ q = cc in append-nil (writePayment x) ∙ ap writePayment same
+written-more (x ∷ xs) (suc row) q qs e =
+    let n : suc row + 1 ≡ suc (row + 1) = omega arith in
+    rw n (ap (λ bytes. writePayment x ++ bytes) (written-more xs row q qs e) ∙ sym (append-assoc (writePayment x) (writePayments (take row xs)) (writePayment q)))
+
+dropped-more : (ps : List Payment) (row : ℕ) (q : Payment) (qs : List Payment) → drop row ps ≡ q ∷ qs → drop (row + 1) ps ≡ qs
+dropped-more ps row q qs e = sym (drop-drop 1 row ps) ∙ ap (drop 1) e
+
+-- the first `row` of the payments are written, and the line at p is that of the next
+pub record Putting (l old : List ℕ) (ps : List Payment) (out : List ℕ) (row p at : ℕ) : Type 0 where
+  pub letters : List ℕ
+  pub before : Totals
+  pub told : composePayments letters before p (split lineEnd (drop p l)) ≡ made (drop row ps)
+  pub inside : p ≤ length l
+  pub room : 128 + length (writePayments ps) ≤ length old
+  pub place : at ≡ 128 + length (writePayments (take row ps))
+  pub long : length out ≡ length old
+  pub holds : out ≡ over 128 (writePayments (take row ps)) old
+
+-- ---- one more
+
+made-same : {x y : Payment} {xs ys : List Payment} → _≡_ {A = Composed (List Payment)} (made (x ∷ xs)) (made (y ∷ ys)) → (x ≡ y) × (xs ≡ ys)
+made-same e = (cc, cc)
+
+some-left : {A : Type 0} (xs : List A) (n : ℕ) → n < length xs → (x : A) × (ys : List A) × (drop n xs ≡ x ∷ ys)
+some-left [] n h = absurd (omega arith)
+some-left (x ∷ xs) zero h = (x, xs, refl)
+some-left (x ∷ xs) (suc n) h = some-left xs n (omega arith)
+
+all-written : (ps : List Payment) (row : ℕ) → length (writePayments ps) ≡ length (writePayments (take row ps)) + length (writePayments (drop row ps))
+all-written ps row = ap (λ (xs : List Payment). length (writePayments xs)) (sym (take-append-drop row ps)) ∙ apart (take row ps) (drop row ps)
+  where
+    apart : (xs ys : List Payment) → length (writePayments (xs ++ ys)) ≡ length (writePayments xs) + length (writePayments ys)
+    apart [] ys = sym (zero-add (length (writePayments ys)))
+    apart (x ∷ xs) ys =
+        length-append (writePayment x) (writePayments (xs ++ ys)) ∙ ap (λ n. length (writePayment x) + n) (apart xs ys)
+        ∙ sym (add-assoc (length (writePayment x)) (length (writePayments xs)) (length (writePayments ys)))
+        ∙ ap (λ n. n + length (writePayments ys)) (sym (length-append (writePayment x) (writePayments xs)))
+
+module _ {l old : List ℕ} {ps : List Payment} {out : List ℕ} {row p at : ℕ} (putting : Putting l old ps out row p at) (left : row < length ps)
+    (e : ℕ) (ends : e ≡ p + reach lineEnd (drop p l)) where
+  -- the payment whose line stands at p
+  pub record Next : Type 0 where
+    pub payment : Payment
+    pub others : List Payment
+    pub coming : drop row ps ≡ payment ∷ others
+    pub more : e ≢ length l
+    pub composed : composePayment (putting .letters) (putting .before) p (split tab (lineTo l p e)) ≡ made payment
+    pub rest : composePayments (putting .letters) (adding (putting .before) payment) (e + 1) (split lineEnd (drop (e + 1) l)) ≡ made others
+
+  not-last : (q : Payment) (qs : List Payment) → composePayments (putting .letters) (putting .before) p (split lineEnd (drop p l)) ≡ made (q ∷ qs) → e ≢ length l
+  unfolding composePayments
+  not-last q qs all last =
+      let letters = putting .letters in
+      let t = putting .before in
+      let f : composePayments letters t p (drop p l ∷ []) ≡ made (q ∷ qs) = ap (composePayments letters t p) (sym (last-piece l p e (putting .inside) ends last)) ∙ all in
+      let g = provided-made (empty (drop p l)) 17 p (provided (leb 1 (t .count)) 18 p (made [])) (q ∷ qs) f in
+      let h = provided-made (leb 1 (t .count)) 18 p (made []) (q ∷ qs) g.1 in
+      let none = h.1 in
+      zero-one cc
+
+  pub next : Next
+  next =
+      let letters = putting .letters in
+      let t = putting .before in
+      let s = some-left ps row left in
+      let all : composePayments letters t p (split lineEnd (drop p l)) ≡ made (s .0 ∷ s .1) = putting .told ∙ ap made s.2 in
+      let more : e ≢ length l = not-last s.0 s.1 all in
+      let c = andThen-made (here l p e (putting .inside) ends more letters t) _ (s .0 ∷ s .1) (sym (step l p e (putting .inside) ends more letters t) ∙ all) in
+      let d = andThen-made (composePayments letters (adding t (c .0)) (e + 1) (split lineEnd (drop (e + 1) l))) _ (s .0 ∷ s .1) c.2 in
+      let same = made-same d.2 in
+      record {
+        payment = c .0;
+        others = s .1;
+        coming = s.2 ∙ ap (λ q. q ∷ s .1) (sym same.0);
+        more = more;
+        composed = c.1;
+        rest = d.1 ∙ ap made same.1;
+      }
+
+  module _ (n : Next) (w : Written (lineTo l p e) (n .payment)) where
+    -- there is room for its record
+    pub next-room : at + 128 * section (linesParts (lineTo l p e)) ≤ length out
+    next-room =
+        let a = all-written ps row in
+        let b = ap (λ (xs : List Payment). length (writePayments xs)) (n .coming) ∙ length-append (writePayment (n .payment)) (writePayments (n .others)) in
+        let c = w .size in
+        let d = putting .place in
+        let f = putting .long in
+        let g = putting .room in
+        omega arith
+
+    pub putting-more : {new : List ℕ} {end : ℕ} → end ≡ at + 128 * section (linesParts (lineTo l p e)) → new ≡ over at (lay (recordC (linesParts (lineTo l p e))) (behindLetter (split tab (lineTo l p e)))) out
+        → Putting l old ps new (row + 1) (e + 1) end
+    putting-more {new} i o =
+        let done = writePayments (take row ps) in
+        let record-of = writePayment (n .payment) in
+        let some : writePayments (take (row + 1) ps) ≡ done ++ record-of = written-more ps row (n .payment) (n .others) (n .coming) in
+        let fits : 128 + (length done + length record-of) ≤ length old
+        = let r = next-room in let c = w .size in let d = putting .place in let f = putting .long in omega arith in
+        let holds : new ≡ over 128 (done ++ record-of) old
+        = o ∙ ap₂ (λ b m. over m b out) (w .bytes) (putting .place) ∙ ap (over (128 + length done) record-of) (putting .holds) ∙ over-next 128 done record-of old fits in
+        record {
+          letters = putting .letters;
+          before = adding (putting .before) (n .payment);
+          told = n .rest ∙ ap made (sym (dropped-more ps row (n .payment) (n .others) (n .coming)));
+          inside = let v = line-within l p e (putting .inside) ends (n .more) in omega arith;
+          room = putting .room;
+          place = i ∙ rw (some, length-append done record-of) (let c = w .size in let d = putting .place in omega arith);
+          long = ap length holds ∙ over-length 128 (done ++ record-of) old (omega (arith, length-append done record-of, fits));
+          holds = holds ∙ ap (λ b. over 128 b old) (sym some);
+        }
+
+-- ---- all of them
+
+pub payments-are : (l : List ℕ) {d : Document} → compose l ≡ made d → paymentsOf (compose l) ≡ d .payments
+unfolding paymentsOf
+payments-are l e = ap paymentsOf e
+
+pub counted : {l : List ℕ} {start n size : ℕ} (accepted : Accepted l start n size) → n ≡ length (paymentsOf (compose l))
+counted {l} accepted = accepted .count ∙ ap length (sym (payments-are l (accepted .told)))
+
+pub putting-first : {l : List ℕ} {start n : ℕ} (old : List ℕ) → Accepted l start n (length old) → Putting l old (paymentsOf (compose l)) old 0 start 128
+putting-first {l} old accepted =
+    let m = made-lines l (accepted .document) (accepted .told) in
+    let w = m .within in
+    let s = accepted .begins in
+    let letters = accepted .document .header .fileKind in
+    record {
+      letters = letters;
+      before = noTotals;
+      told = ap (λ p. composePayments letters noTotals p (split lineEnd (drop p l))) s ∙ m .rest ∙ ap made (sym (payments-are l (accepted .told)));
+      inside = omega arith;
+      room = subst (λ ps. 128 + length (writePayments ps) ≤ length old) (sym (payments-are l (accepted .told))) (accepted .room);
+      place = refl;
+      long = refl;
+      holds = sym (over-nothing 128 old);
+    }
+
+pub all-put : {l old : List ℕ} {ps : List Payment} {out : List ℕ} {row p at : ℕ} → Putting l old ps out row p at → length ps ≤ row
+    → (at ≡ 128 + length (writePayments ps)) × (out ≡ over 128 (writePayments ps) old)
+all-put {old = old} {ps = ps} {row = row} w h =
+    let all : take row ps ≡ ps = take-all row ps h in
+    (w .place ∙ ap (λ xs. 128 + length (writePayments xs)) all, w .holds ∙ ap (λ xs. over 128 (writePayments xs) old) all)

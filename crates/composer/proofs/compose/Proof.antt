@@ -1,0 +1,68 @@
+-- composer::compose meets its contract: the listing is read, then the room tested, then the file written.
+-- Assumes nothing.
+use native.Mathlib.Omega.{arith}
+use mathlib.Core.Path.{ap, _∙_}
+use borrow.Author.Needs.{needs}
+use Rattle.fields.specs.declared.Refusal.{Refusal}
+use Rattle.listing.specs.Endings.{refuses}
+use Rattle.pen.specs.Writing.{writtenOf}
+use Rattle.composer.proofs.CallLaws.{call-refused, call-told, call-short, call-ready, call-written}
+use Rattle.composer.proofs.compose.Statement.{statement}
+use Rattle.composer.proofs.compose.Tie as tie
+
+read-listing-requires : tie.Need-read-listing-requires
+read-listing-requires c κs = search needs
+
+enum-known-read : tie.Need-enum-known-read
+enum-known-read c = search needs
+
+enum-told : tie.Need-enum-told
+enum-told c = search needs
+
+why-requires : tie.Need-why-requires
+why-requires c κs = search needs
+
+refused-requires : tie.Need-refused-requires
+refused-requires c κs = search needs
+
+returns : tie.Need-returns
+returns c = call-refused _ _ (c .before .before .before .before .read-listing .ensures) (c .before .before .enum-told .given .1) (c .before .why .ensures) (c .refused .ensures)
+
+add-length : tie.Need-add-length
+add-length c = let t = call-told _ (c .before .before .before .before .before .before .args .out .now) (c .before .before .before .read-listing .ensures) (c .before .read .given .1) in let s = t .small in omega arith
+
+refuse-requires : tie.Need-refuse-requires
+refuse-requires c κs = search needs
+
+refused-requires-2 : tie.Need-refused-requires-2
+refused-requires-2 c κs = search needs
+
+returns-2 : tie.Need-returns-2
+returns-2 c = call-short _ _ (c .before .before .before .before .before .before .read-listing .ensures) (c .before .before .before .before .read .given .1) (c .before .before .if1 .taken) (c .refused2 .ensures ∙ ap (λ (w : Refusal). writtenOf (refuses (w .number) (w .place))) (c .before .refuse .ensures))
+
+write-file-requires : tie.Need-write-file-requires
+write-file-requires c κs = call-ready _ (c .before .before .before .before .before .before .before .before .args .out .now) (c .before .before .before .before .before .read-listing .ensures) (c .before .before .before .read .given .1) (c .before .if1 .left)
+
+same-length : tie.Need-same-length
+same-length c = search needs
+
+returns-3 : tie.Need-returns-3
+returns-3 c = call-written _ _ (c .before .before .before .before .before .before .before .before .read-listing .ensures) (c .before .before .before .before .before .before .read .given .1) (c .before .before .before .before .if1 .left) (c .before .before .write-file .ensures)
+
+pub compose-spec : {M : Type 1} → statement M
+compose-spec =
+    tie.close
+    (tie.spec
+    read-listing-requires
+    enum-known-read
+    enum-told
+    why-requires
+    refused-requires
+    returns
+    add-length
+    refuse-requires
+    refused-requires-2
+    returns-2
+    write-file-requires
+    same-length
+    returns-3)

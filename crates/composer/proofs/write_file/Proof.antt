@@ -1,0 +1,77 @@
+-- composer::write_file meets its contract: A, the payments and E, one behind the other.
+-- Assumes nothing.
+use Prim.Native.Nat.{_+_, _≤_}
+use native.Mathlib.Omega.{arith}
+use mathlib.Core.Path.{sym}
+use lib.ListN.{length}
+use lib.Seq.{length-take-le}
+use borrow.Author.Needs.{needs}
+use Rattle.composer.proofs.WritingLaws.{part-long}
+use Rattle.composer.proofs.FileLaws.{writable, room, line-within, head-is, payments-accepted, first-long, end-room, file-written}
+use Rattle.composer.proofs.write_file.Statement.{statement}
+use Rattle.composer.proofs.write_file.Tie as tie
+
+-- there is room for E
+ending : (c : tie.After-slice-known3) → c .before .before .write-payments .result + 128 ≤ length (c .before .before .write-payments .last .1 .1 .1 .0)
+ending c = end-room (c .before .before .before .before .before .before .before .before .before .before .before .before .args .out .now) (c .before .before .before .before .before .before .before .before .before .before .before .before .pre) (c .before .before .before .before .before .before .before .before .before .reach .ensures) (c .before .before .before .before .before .before .lay-header .ensures) (c .before .before .write-payments .ensures .0) (c .before .before .write-payments .ensures .1)
+
+reach-requires : tie.Need-reach-requires
+reach-requires c κs = search needs
+
+slice-aggregate-lay-header : tie.Need-slice-aggregate-lay-header
+slice-aggregate-lay-header c = let w = line-within (c .before .before .before .before .pre) (c .before .reach .ensures) in sym (length-take-le _ _ (omega arith))
+
+slice-relend-prefix-lay-header : tie.Need-slice-relend-prefix-lay-header
+slice-relend-prefix-lay-header c = let r = room (c .before .before .before .before .pre) in omega arith
+
+slice-aggregate-lay-header-2 : tie.Need-slice-aggregate-lay-header-2
+slice-aggregate-lay-header-2 c = let r = room (c .before .before .before .before .before .pre) in sym (length-take-le _ (c .before .before .before .before .before .args .out .now) (omega arith))
+
+lay-header-requires : tie.Need-lay-header-requires
+lay-header-requires c κs = let r = room (c .before .before .before .before .before .pre) in (head-is (c .before .before .before .before .before .pre) (c .before .before .reach .ensures) .0, length-take-le _ (c .before .before .before .before .before .args .out .now) (omega arith))
+
+add-write-payments : tie.Need-add-write-payments
+add-write-payments c = let w = line-within (c .before .before .before .before .before .before .before .before .pre) (c .before .before .before .before .before .reach .ensures) in let g = c .before .before .before .before .before .before .before .before .good .0 .1 in omega arith
+
+write-payments-requires : tie.Need-write-payments-requires
+write-payments-requires c κs = payments-accepted (c .before .before .before .before .before .before .before .before .before .pre) (c .before .before .before .before .before .before .reach .ensures) (first-long (c .before .before .before .before .before .before .before .before .before .args .out .now) (c .before .before .before .before .before .before .before .before .before .pre) (c .before .before .before .before .before .before .reach .ensures) (c .before .before .before .lay-header .ensures))
+
+add-put-end : tie.Need-add-put-end
+add-put-end c = let h = ending c in let o = c .before .before .write-payments .kept .1 .1 .1 .0 in let f = first-long (c .before .before .before .before .before .before .before .before .before .before .before .before .args .out .now) (c .before .before .before .before .before .before .before .before .before .before .before .before .pre) (c .before .before .before .before .before .before .before .before .before .reach .ensures) (c .before .before .before .before .before .before .lay-header .ensures) in let g = c .before .before .before .before .before .before .before .before .before .before .before .before .good .1 .0 .0 in omega arith
+
+sub-put-end : tie.Need-sub-put-end
+sub-put-end c = search needs
+
+part-put-end-start : tie.Need-part-put-end-start
+part-put-end-start c = search needs
+
+part-put-end-end : tie.Need-part-put-end-end
+part-put-end-end c = ending c
+
+put-end-requires : tie.Need-put-end-requires
+put-end-requires c κs = (part-long _ 128 _ (ending (c .before)), writable (c .before .before .before .before .before .before .before .before .before .before .before .before .before .pre))
+
+same-length : tie.Need-same-length
+same-length c = search needs
+
+returns : tie.Need-returns
+returns c = file-written (c .before .before .before .before .before .before .before .before .before .before .before .before .before .before .before .before .args .out .now) (c .before .before .before .before .before .before .before .before .before .before .before .before .before .before .before .before .pre) (c .before .before .before .before .before .before .before .before .before .before .before .before .before .reach .ensures) (c .before .before .before .before .before .before .before .before .before .before .lay-header .ensures) (c .before .before .before .before .before .before .write-payments .ensures .0) (c .before .before .before .before .before .before .write-payments .ensures .1) (c .before .before .put-end .ensures)
+
+pub write-file-spec : {M : Type 1} → statement M
+write-file-spec =
+    tie.close
+    (tie.spec
+    reach-requires
+    slice-aggregate-lay-header
+    slice-relend-prefix-lay-header
+    slice-aggregate-lay-header-2
+    lay-header-requires
+    add-write-payments
+    write-payments-requires
+    add-put-end
+    sub-put-end
+    part-put-end-start
+    part-put-end-end
+    put-end-requires
+    same-length
+    returns)

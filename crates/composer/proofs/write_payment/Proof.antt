@@ -1,0 +1,82 @@
+-- composer::write_payment meets its contract: its record is laid out where it belongs.
+-- Assumes nothing.
+use Prim.Native.Nat.{_+_, _*_, _≤_}
+use native.Mathlib.Omega.{arith}
+use mathlib.Core.Path.{_≡_, sym, ap, _∙_, subst}
+use mathlib.Core.Bool.{false}
+use lib.ListN.{length}
+use borrow.Author.Needs.{needs}
+use Rattle.rules.specs.Writing.{section}
+use Rattle.listing.specs.Lines.{tab, split}
+use Rattle.listing.specs.Records.{recordC, partsOf, lay}
+use Rattle.pen.specs.Writing.{over}
+use Rattle.composer.specs.Telling.{FormedLine, linesParts, behindLetter}
+use Rattle.composer.proofs.ToldLaws.{few}
+use Rattle.composer.proofs.WritingLaws.{part-over, part-long, bytes-told}
+use Rattle.composer.proofs.write_payment.Statement.{statement}
+use Rattle.composer.proofs.write_payment.Tie as tie
+
+-- the parts that the line tells
+parts : (c : tie.After-parts-of) → c .parts-of .result ≡ linesParts (c .before .before .before .before .args .x .now)
+parts c = c .parts-of .ensures ∙ ap partsOf (c .before .count-fields .ensures)
+
+few-parts : (c : tie.After-parts-of) → c .parts-of .result ≤ 15
+few-parts c = let e = parts c in let h = few (length (split tab (c .before .before .before .before .args .x .now))) in omega arith
+
+formed : (c : tie.After-parts-of) → FormedLine false (12 + 2 * c .parts-of .result) (c .before .before .before .before .args .x .now)
+formed c = subst (λ k. FormedLine false (12 + 2 * k) (c .before .before .before .before .args .x .now)) (sym (parts c)) (c .before .before .before .before .pre .0)
+
+-- the bytes that its record takes
+size : (c : tie.After-bytes-of) → c .bytes-of .result ≡ 128 * section (linesParts (c .before .before .before .before .before .args .x .now))
+size c = bytes-told _ (parts (c .before)) (c .bytes-of .ensures)
+
+long : (c : tie.After-bytes-of) → c .bytes-of .result ≡ 128 * section (c .before .parts-of .result)
+long c = size c ∙ ap (λ k. 128 * section k) (sym (parts (c .before)))
+
+room : (c : tie.After-bytes-of) → c .before .before .before .before .before .args .at + c .bytes-of .result ≤ length (c .before .before .before .before .before .args .out .now)
+room c = let e = size c in let h = c .before .before .before .before .before .pre .1 in omega arith
+
+count-fields-requires : tie.Need-count-fields-requires
+count-fields-requires c κs = search needs
+
+parts-of-requires : tie.Need-parts-of-requires
+parts-of-requires c κs = search needs
+
+bytes-of-requires : tie.Need-bytes-of-requires
+bytes-of-requires c κs = search needs
+
+add-end : tie.Need-add-end
+add-end c = let h = room c in let g = c .before .before .before .before .before .good .1 .0 .0 in omega arith
+
+sub-lay-payment : tie.Need-sub-lay-payment
+sub-lay-payment c = search needs
+
+part-lay-payment-start : tie.Need-part-lay-payment-start
+part-lay-payment-start c = search needs
+
+part-lay-payment-end : tie.Need-part-lay-payment-end
+part-lay-payment-end c = room c
+
+lay-payment-requires : tie.Need-lay-payment-requires
+lay-payment-requires c κs = (few-parts (c .before .before), (formed (c .before .before), part-long _ _ _ (room (c .before)) ∙ long (c .before)))
+
+same-length : tie.Need-same-length
+same-length c = search needs
+
+returns : tie.Need-returns
+returns c = let l = c .before .before in (ap (λ n. c .before .before .before .before .before .before .before .before .before .args .at + n) (size (c .before .before .before .before)), part-over (c .before .before .before .before .before .before .before .before .before .args .at) (c .before .before .before .before .bytes-of .result) (l .lay-payment .last .1 .1 .0) (c .before .before .before .before .before .before .before .before .before .args .out .now) (l .lay-payment .kept .1 .1 .0 ∙ part-long _ _ _ (room (c .before .before .before .before))) ∙ ap (λ f. over (c .before .before .before .before .before .before .before .before .before .args .at) f (c .before .before .before .before .before .before .before .before .before .args .out .now)) (l .lay-payment .ensures ∙ ap (λ k. lay (recordC k) (behindLetter (split tab (c .before .before .before .before .before .before .before .before .before .args .x .now)))) (parts (c .before .before .before .before .before))))
+
+pub write-payment-spec : {M : Type 1} → statement M
+write-payment-spec =
+    tie.close
+    (tie.spec
+    count-fields-requires
+    parts-of-requires
+    bytes-of-requires
+    add-end
+    sub-lay-payment
+    part-lay-payment-start
+    part-lay-payment-end
+    lay-payment-requires
+    same-length
+    returns)

@@ -1,0 +1,92 @@
+-- What the code answers of a line and of lines, given what composing makes of them.
+use Prim.Native.Nat.{ℕ, _+_, _*_, _≤_, _<_}
+use mathlib.Core.Path.{_≡_}
+use mathlib.Core.Bool.{Bool, true, false, _&&_, _||_, not}
+use mathlib.Core.List.{List, [], _∷_}
+use lib.ListN.{length, take}
+use lib.Dec.{leb, eqb}
+use Rattle.form.specs.Kind.{same}
+use Rattle.rules.specs.Signs.{ascii}
+use Rattle.rules.specs.Values.{Header, Payment, Document, Totals, totals}
+use Rattle.rules.specs.Writing.{writePayment, writePayments}
+use Rattle.fields.specs.declared.Refusal.{Refusal}
+use Rattle.fields.specs.declared.KindRead.{KindRead}
+use Rattle.fields.specs.declared.KindRead.the-variants as kind
+use Rattle.fields.specs.Answers.{refusalOf, kindOf}
+use Rattle.payment.specs.declared.PaymentRead.{PaymentRead}
+use Rattle.payment.specs.declared.PaymentRead.the-variants as payment
+use Rattle.payment.specs.Adding.{withPayment}
+use Rattle.sums.specs.declared.Sums.{Sums}
+use Rattle.checker.specs.Checking.{sumsOf, together}
+use Rattle.listing.specs.Lines.{tab, split, endsInBlank}
+use Rattle.listing.specs.Records.{partsOf, formed, inLine}
+use Rattle.listing.specs.Composing.{Composed, made, denied}
+use Rattle.pen.specs.declared.Cell.{Cell}
+use Rattle.pen.specs.Walking.{cellsOf}
+use Rattle.composer.specs.declared.LinesRead.{LinesRead}
+use Rattle.composer.specs.declared.LinesRead.the-variants as lines
+
+-- ---- a line by its fields
+
+-- a field has the form that its cell asks for
+abbrev pub wideAs : Cell → ℕ → Bool
+wideAs c n = eqb n (c .width) || ((c .text && leb n (c .width)) || (c .optional && eqb n 0))
+
+abbrev pub formedAs : Cell → List ℕ → Bool
+formedAs c t = wideAs c (length t) && not (endsInBlank t)
+
+abbrev pub letterOf : Bool → List ℕ
+letterOf true = ascii "A"
+letterOf false = ascii "C"
+
+-- the letter, and n fields behind it, each of its form
+abbrev pub lineFormed : Bool → ℕ → List (List ℕ) → Bool
+lineFormed head n [] = false
+lineFormed head n (t ∷ ts) = same (letterOf head) t && formed (take n (cellsOf head)) ts
+
+abbrev pub behindLetter : List (List ℕ) → List (List ℕ)
+behindLetter [] = []
+behindLetter (t ∷ ts) = ts
+
+-- a line of that form, of at least one field
+abbrev pub FormedLine : Bool → ℕ → List ℕ → Type 0
+FormedLine head n x = (0 < n) × ((n ≤ length (cellsOf head)) × (lineFormed head n (split tab x) ≡ true))
+
+-- how many parts a payment's line tells
+abbrev pub linesParts : List ℕ → ℕ
+linesParts x = partsOf (length (split tab x))
+
+abbrev pub PaymentLine : List ℕ → Type 0
+PaymentLine x = FormedLine false (12 + 2 * linesParts x) x
+
+-- where in the line the field of the record at place p stands
+abbrev pub placeIn : Bool → ℕ → List (List ℕ) → ℕ → ℕ
+placeIn head n ts p = inLine (take n (cellsOf head)) (behindLetter ts) 2 p
+
+-- ---- what is told of what is composed
+
+abbrev pub tells : {A R : Type 0} → (A → R) → (Refusal → R) → Composed A → R
+tells gives refuses (made a) = gives a
+tells gives refuses (denied n p) = refuses (refusalOf n p)
+
+-- of A its kind, and the place behind its line
+abbrev pub headTold : ℕ → Composed Header → KindRead
+headTold q c = tells (λ h. kind.Is (kindOf (h .fileKind)) q) kind.Refused c
+
+-- of a payment the sums with it, and its bytes in the file
+abbrev pub paymentTold : Sums → Composed Payment → PaymentRead
+paymentTold sums c = tells (λ p. payment.Is (withPayment sums p) (length (writePayment p))) payment.Refused c
+
+-- of payments after others that come to t: what all come to, and these payments' bytes added to so many
+abbrev pub paymentsTold : Totals → ℕ → Composed (List Payment) → LinesRead
+paymentsTold t size c =
+    tells (λ ps. let u = together t (totals ps) in lines.Are (u .count) (sumsOf u) (size + length (writePayments ps))) lines.Refused c
+
+-- of a listing what its payments come to, and their bytes
+abbrev pub listingTold : Composed Document → LinesRead
+listingTold c =
+    tells (λ d. lines.Are (totals (d .payments) .count) (sumsOf (totals (d .payments))) (length (writePayments (d .payments)))) lines.Refused c
+
+abbrev pub linesWhy : LinesRead → Refusal
+linesWhy (lines.Are n t size) = refusalOf 0 0
+linesWhy (lines.Refused r) = r

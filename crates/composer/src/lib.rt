@@ -1,0 +1,253 @@
+// Composing: the listing is checked whole, then the room in the output, and only then is a byte written.
+ghost use mathlib.Core.Path.{_≡_};
+ghost use Prim.Native.Nat.{_+_, _*_, _≤_, _<_, _^_};
+ghost use lib.ListN.{length, drop};
+ghost use Rattle.form.specs.Place.{readAt};
+ghost use Rattle.rules.specs.Values.{noTotals};
+ghost use Rattle.rules.specs.Writing.{section, writePayments};
+ghost use Rattle.rules.specs.Answer.{filled};
+ghost use Rattle.fields.specs.Answers.{refusalOf, ofRead, lettersOf};
+ghost use Rattle.payment.specs.Adding.{paymentsOn};
+ghost use Rattle.sums.specs.Sums.{totalsOf};
+ghost use Rattle.listing.specs.Lines.{tab, lineEnd, split};
+ghost use Rattle.listing.specs.Records.{recordC, partsOf, lay};
+ghost use Rattle.listing.specs.Composing.{wholePayment, composeHeader, composePayment, composePayments, compose};
+ghost use Rattle.listing.specs.Endings.{refuses, composed, within, bytesOf};
+ghost use Rattle.pen.specs.Writing.{over, writtenOf};
+ghost use Rattle.composer.specs.Telling.{FormedLine, PaymentLine, behindLetter, linesParts, placeIn, headTold, paymentTold, paymentsTold, listingTold, linesWhy};
+ghost use Rattle.composer.specs.Writing.{paymentsOf, Accepted, Ready};
+use fields::FileKind;
+use fields::KindRead;
+use fields::Number;
+use fields::Refusal;
+use fields::numbers;
+use header::HeaderRead;
+use payment::PaymentRead;
+use pen::Written;
+use sums::Sums;
+
+mod line;
+mod record;
+
+// Behind the letter: the fields of A's line, and those that every C's has.
+const FIELDS_OF_A: usize = 8;
+
+const FIELDS_OF_C: usize = 12;
+
+// What the payments of a listing come to, and how many bytes they take in the file.
+pub enum LinesRead {
+    Refused(Refusal),
+    Are(u64, Sums, usize),
+}
+
+impl LinesRead {
+    fn why(self) -> Refusal
+        ensures { λ r. ⌜ r ≡ linesWhy self ⌝ }
+    {
+        match self {
+            LinesRead::Are(_, _, _) => fields::NO_REFUSAL,
+            LinesRead::Refused(r) => r,
+        }
+    }
+}
+
+// The refusal of a field of the record of a line that begins at p: the field's own place in the line.
+fn refused_in(head: bool, n: usize, x: &[u8], p: usize, why: Refusal) -> Refusal
+    requires { ⌜ FormedLine head n (now x) × (p + length (now x) + 1 < 2 ^ 64) ⌝ }
+    ensures { λ r. ⌜ r ≡ refusalOf (why .number) (p + placeIn head n (split tab (now (x .entry))) (why .place)) ⌝ }
+{
+    let place = line::place_of(head, n, x, why.place);
+    fields::refuse(why.number, p + place)
+}
+
+// The line x of A, with which the listing begins.
+fn header_line(x: &[u8]) -> KindRead
+    ensures { λ r. ⌜ r ≡ headTold (length (now (x .entry))) (composeHeader (split tab (now (x .entry)))) ⌝ }
+{
+    if !line::formed(true, FIELDS_OF_A, x) {
+        return KindRead::Refused(fields::refuse(numbers::NO_LINE, 0));
+    }
+    let mut laid = [b' '; 128];
+    record::lay_header(x, &mut laid);
+    let a = header::header_at(&laid, 0);
+    let HeaderRead::Is(h, _) = a else {
+        return KindRead::Refused(refused_in(true, FIELDS_OF_A, x, 0, a.why()));
+    };
+    let kind = h.kind;
+    KindRead::Is(kind, x.len())
+}
+
+// How many parts a C line tells that has so many fields, its letter among them.
+fn parts_of(fields: usize) -> usize
+    ensures { λ r. ⌜ r ≡ partsOf fields ⌝ }
+{
+    if fields < 13 {
+        return 0;
+    }
+    let k = (fields - 13) / 2;
+    if k > 15 {
+        return 15;
+    }
+    k
+}
+
+// The record C with its length, after so many payments that come to these sums: whether it may begin, and its fields.
+fn payment_record(c: &[u8], kind: FileKind, count: u64, sums: Sums) -> PaymentRead
+    ensures { λ r. ⌜ r ≡ ofRead (paymentsOn sums) (readAt (wholePayment (lettersOf kind) (totalsOf count sums)) (now (c .entry)) 0) ⌝ }
+{
+    let first = checker::length_at(c, 0, count, sums);
+    let Number::Is(l, q) = first else {
+        return PaymentRead::Refused(first.why());
+    };
+    payment::payment_at(c, q, kind, sums, l)
+}
+
+// The line x of a payment, which begins at p, after so many payments that come to these sums. Its record is laid out in `room`.
+fn payment_line(
+    x: &[u8],
+    p: usize,
+    kind: FileKind,
+    count: u64,
+    sums: Sums,
+    room: &mut [u8],
+) -> PaymentRead
+    requires { ⌜ (p + length (now x) + 1 < 2 ^ 64) × (length (now room) ≡ 768) ⌝ }
+    ensures { λ r. ⌜ r ≡ paymentTold sums (composePayment (lettersOf kind) (totalsOf count sums) p (split tab (now (x .entry)))) ⌝ }
+{
+    let k = parts_of(line::count_fields(x));
+    let n = FIELDS_OF_C + 2 * k;
+    if !line::formed(false, n, x) {
+        return PaymentRead::Refused(fields::refuse(numbers::NO_LINE, p));
+    }
+    let bytes = pen::bytes_of(k);
+    record::lay_payment(k, x, &mut room[..bytes]);
+    let c = payment_record(&room[..bytes], kind, count, sums);
+    let PaymentRead::Is(new_sums, _) = c else {
+        return PaymentRead::Refused(refused_in(false, n, x, p, c.why()));
+    };
+    PaymentRead::Is(new_sums, bytes)
+}
+
+// The payments' lines from `start` on, in a file of this kind. Each record is laid out in `room`.
+fn read_payments(l: &[u8], start: usize, kind: FileKind, room: &mut [u8]) -> LinesRead
+    requires { ⌜ (start ≤ length (now l)) × (length (now room) ≡ 768) ⌝ }
+    ensures { λ r. ⌜ r ≡ paymentsTold noTotals 0 (composePayments (lettersOf kind) noTotals start (split lineEnd (drop start (now (l .entry))))) ⌝ }
+{
+    let mut p = start;
+    let mut count: u64 = 0;
+    let mut sums = sums::NO_SUMS;
+    let mut size = 0;
+    loop {
+        let e = pen::reach(l, p, pen::LINE_END);
+        if e == l.len() {
+            break;
+        }
+        let c = payment_line(&l[p..e], p, kind, count, sums, room);
+        let PaymentRead::Is(new_sums, bytes) = c else {
+            return LinesRead::Refused(c.why());
+        };
+        sums = new_sums;
+        count += 1;
+        size += bytes;
+        p = e + 1;
+    }
+    if p < l.len() {
+        return LinesRead::Refused(fields::refuse(numbers::NO_LINE, p));
+    }
+    if count == 0 {
+        return LinesRead::Refused(fields::refuse(numbers::ENDS_EARLY, p));
+    }
+    LinesRead::Are(count, sums, size)
+}
+
+// The whole listing.
+fn read_listing(l: &[u8]) -> LinesRead
+    ensures { λ r. ⌜ r ≡ listingTold (compose (now (l .entry))) ⌝ }
+{
+    let e = pen::reach(l, 0, pen::LINE_END);
+    if e == l.len() {
+        if e == 0 {
+            return LinesRead::Refused(fields::refuse(numbers::ENDS_EARLY, 0));
+        }
+        return LinesRead::Refused(fields::refuse(numbers::NO_LINE, 0));
+    }
+    let a = header_line(&l[..e]);
+    let KindRead::Is(kind, _) = a else {
+        return LinesRead::Refused(a.why());
+    };
+    let mut room = [b' '; 768];
+    read_payments(l, e + 1, kind, &mut room)
+}
+
+// Writes a payment from its line x, into the output from `at` on, and tells the place behind it.
+fn write_payment(x: &[u8], out: &mut [u8], at: usize) -> usize
+    requires { ⌜ PaymentLine (now x) × (at + 128 * section (linesParts (now x)) ≤ length (now out)) ⌝ }
+    ensures place { λ r. ⌜ r ≡ at + 128 * section (linesParts (now (x .entry))) ⌝ }
+    ensures out { λ _. ⌜ now (out .exit) ≡ over at (lay (recordC (linesParts (now (x .entry)))) (behindLetter (split tab (now (x .entry))))) (now (out .entry)) ⌝ }
+{
+    let k = parts_of(line::count_fields(x));
+    let end = at + pen::bytes_of(k);
+    record::lay_payment(k, x, &mut out[at..end]);
+    end
+}
+
+// Writes the records of all payments of a listing that has been accepted, whose lines begin at `start`, and tells the place behind them.
+fn write_payments(l: &[u8], start: usize, count: u64, out: &mut [u8]) -> usize
+    requires { ⌜ Accepted (now l) start count (length (now out)) ⌝ }
+    ensures place { λ r. ⌜ r ≡ 128 + length (writePayments (paymentsOf (compose (now (l .entry))))) ⌝ }
+    ensures out { λ _. ⌜ now (out .exit) ≡ over 128 (writePayments (paymentsOf (compose (now (l .entry))))) (now (out .entry)) ⌝ }
+{
+    let mut p = start;
+    let mut at = 128;
+    let mut row = 0;
+    while row < count {
+        let e = pen::reach(l, p, pen::LINE_END);
+        at = write_payment(&l[p..e], out, at);
+        p = e + 1;
+        row += 1;
+    }
+    at
+}
+
+// Writes the file.
+fn write_file(l: &[u8], count: u64, sums: Sums, out: &mut [u8])
+    requires { ⌜ Ready (now l) (totalsOf count sums) (length (now out)) ⌝ }
+    ensures { λ _. ⌜ now (out .exit) ≡ filled (bytesOf (composed (compose (now (l .entry))))) (now (out .entry)) ⌝ }
+{
+    let e = pen::reach(l, 0, pen::LINE_END);
+    record::lay_header(&l[..e], &mut out[..128]);
+    let end = write_payments(l, e + 1, count, out);
+    record::put_end(count, sums, &mut out[end..end + 128]);
+}
+
+// A refused call has written nothing.
+fn refused(why: Refusal) -> Written
+    ensures { λ r. ⌜ r ≡ writtenOf (refuses (why .number) (why .place)) ⌝ }
+{
+    Written {
+        number: why.number,
+        place: why.place,
+        length: 0,
+    }
+}
+
+// Composes the file of a listing. What a refused call is lent it leaves as it was.
+pub fn compose(l: &[u8], out: &mut [u8]) -> Written
+    ensures answer { λ r. ⌜ r ≡ writtenOf (within (length (now (out .entry))) (composed (compose (now (l .entry))))) ⌝ }
+    ensures out { λ _. ⌜ now (out .exit) ≡ filled (bytesOf (within (length (now (out .entry))) (composed (compose (now (l .entry)))))) (now (out .entry)) ⌝ }
+{
+    let read = read_listing(l);
+    let LinesRead::Are(count, sums, size) = read else {
+        return refused(read.why());
+    };
+    let length = 256 + size;
+    if out.len() < length {
+        return refused(fields::refuse(numbers::NO_ROOM, 0));
+    }
+    write_file(l, count, sums, out);
+    Written {
+        number: 0,
+        place: 0,
+        length: length,
+    }
+}

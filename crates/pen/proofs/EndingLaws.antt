@@ -1,0 +1,106 @@
+-- A call that writes: what its statement comes to, for every way in which it would end with room enough.
+-- Assumes nothing.
+use Prim.Native.Nat.{ℕ, _≤_, _<_}
+use native.Mathlib.Omega.{arith}
+use mathlib.Core.Path.{_≡_, refl, sym, ap, _∙_}
+use mathlib.Core.Logic.{_≢_}
+use mathlib.Core.Bool.{Bool, true, false}
+use mathlib.Core.List.{List}
+use lib.ListN.{length, take, drop}
+use lib.Seq.{take-at, drop-at}
+use lib.Dec.{leb}
+use borrow.Author.Tests.{leb-true, leb-false, le-leb, lt-leb}
+use Rattle.rules.specs.Answer.{filled}
+use Rattle.listing.specs.Endings.{Ending, writes, refuses, within, bytesOf}
+use Rattle.pen.specs.declared.Written.{Written}
+use Rattle.pen.specs.Writing.{writtenOf}
+
+-- what the call ensures of its result and of the output, which held `old`
+abbrev pub Says : Ending → List ℕ → Written → List ℕ → Type 0
+Says e old r new = (r ≡ writtenOf (within (length old) e)) × (new ≡ filled (bytesOf (within (length old) e)) old)
+
+-- ---- how the statement is met
+
+module _ (e : Ending) (old : List ℕ) where
+  as-it-ends : (x : Ending) → within (length old) e ≡ x → {r : Written} → r ≡ writtenOf x → {new : List ℕ} → new ≡ filled (bytesOf x) old → Says e old r new
+  as-it-ends x i g n = (g ∙ ap writtenOf (sym i), n ∙ ap (λ y. filled (bytesOf y) old) (sym i))
+
+  pub ends-refused : {n p : ℕ} → e ≡ refuses n p → {r : Written} → r ≡ writtenOf (refuses n p) → Says e old r old
+  unfolding within
+  ends-refused {n} {p} i g = as-it-ends (refuses n p) (ap (within (length old)) i) g refl
+
+  module _ {bs : List ℕ} (i : e ≡ writes bs) where
+    fits-not : length old < length bs → within (length old) e ≡ refuses 16 0
+    unfolding within
+    fits-not h = ap (within (length old)) i ∙ rw (lt-leb (length bs) (length old) h)
+
+    fits : length bs ≤ length old → within (length old) e ≡ writes bs
+    unfolding within
+    fits h = ap (within (length old)) i ∙ rw (le-leb (length bs) (length old) h)
+
+    pub ends-short : length old < length bs → {r : Written} → r ≡ writtenOf (refuses 16 0) → Says e old r old
+    ends-short h g = as-it-ends (refuses 16 0) (fits-not h) g refl
+
+    pub ends-written : length bs ≤ length old → {r : Written} → r ≡ writtenOf (writes bs) → {new : List ℕ} → new ≡ filled bs old → Says e old r new
+    ends-written h g n = as-it-ends (writes bs) (fits h) g n
+
+-- ---- what it comes to
+
+sixteen : _≡_ {A = ℕ} 0 16 → ⊥
+sixteen e = omega arith
+
+module _ (e : Ending) (old : List ℕ) where
+  -- it admits one answer
+  pub one-answer : (r s : Written) (a b : List ℕ) → Says e old r a → Says e old s b → (r ≡ s) × (a ≡ b)
+  one-answer r s a b d f = (d .0 ∙ sym (f .0), d .1 ∙ sym (f .1))
+
+  module _ (r : Written) (new : List ℕ) (says : Says e old r new) where
+    abbrev end : Ending
+    end = within (length old) e
+
+    -- a refused call leaves the output as it was
+    pub refused-untouched : r .number ≢ 0 → new ≡ old
+    refused-untouched n = by end refl
+      where
+        by : (x : Ending) → end ≡ x → new ≡ old
+        by (writes bs) i = absurd (n (ap (λ (w : Written). w .number) (says .0 ∙ ap writtenOf i)))
+        by (refuses m p) i = says .1 ∙ ap (λ x. filled (bytesOf x) old) i
+
+    -- the length given is that of what was written
+    length-is : r .length ≡ length (bytesOf end)
+    length-is = ap (λ (w : Written). w .length) (says .0) ∙ by end
+      where
+        by : (x : Ending) → writtenOf x .length ≡ length (bytesOf x)
+        by (writes bs) = refl
+        by (refuses m p) = refl
+
+    -- and the output past it is as it was
+    pub tail-is : drop (r .length) new ≡ drop (r .length) old
+    tail-is =
+        ap (drop (r .length)) (says .1)
+        ∙ drop-at (bytesOf end) (drop (length (bytesOf end)) old) (r .length) (sym length-is)
+        ∙ ap (λ n. drop n old) (sym length-is)
+
+    -- a refusal is given as it is
+    pub refused-as : {n p : ℕ} → e ≡ refuses n p → r ≡ record { number = n; place = p; length = 0 }
+    unfolding within
+    refused-as i = says .0 ∙ ap (λ x. writtenOf (within (length old) x)) i
+
+    module _ {bs : List ℕ} (i : e ≡ writes bs) where
+      -- 16 at 0 where the output is too short
+      pub no-room-as : length old < length bs → r ≡ record { number = 16; place = 0; length = 0 }
+      no-room-as h = says .0 ∙ ap writtenOf (fits-not e old i h)
+
+      pub has-room : r .number ≡ 0 → length bs ≤ length old
+      has-room z = by (leb (length bs) (length old)) refl
+        where
+          by : (b : Bool) → leb (length bs) (length old) ≡ b → length bs ≤ length old
+          by true j = leb-true (length bs) (length old) j
+          by false j = absurd (sixteen (sym z ∙ ap (λ (w : Written). w .number) (no-room-as (leb-false (length bs) (length old) j))))
+
+      -- else 0 at 0 with the length, and the output begins with the bytes
+      pub written-as : length bs ≤ length old → (r ≡ record { number = 0; place = 0; length = length bs }) × (take (r .length) new ≡ bs)
+      written-as h = (
+        says .0 ∙ ap writtenOf (fits e old i h),
+        ap (take (r .length)) (says .1) ∙ take-at (bytesOf end) (drop (length (bytesOf end)) old) (r .length) (sym length-is) ∙ ap bytesOf (fits e old i h),
+      )
