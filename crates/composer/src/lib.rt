@@ -35,7 +35,7 @@ const FIELDS_OF_A: usize = 8;
 const FIELDS_OF_C: usize = 12;
 
 // What the payments of a listing come to, and how many bytes they take in the file.
-pub enum LinesRead {
+enum LinesRead {
     Refused(Refusal),
     Are(u64, Sums, usize),
 }

@@ -11,7 +11,7 @@ use fields::fixed;
 use pen::Cell;
 
 // How many fields there are, the letter among them.
-pub fn count_fields(x: &[u8]) -> usize
+pub(crate) fn count_fields(x: &[u8]) -> usize
     ensures { λ r. ⌜ r ≡ length (split tab (now (x .entry))) ⌝ }
 {
     let mut tabs = 0;
@@ -60,7 +60,7 @@ fn begins(head: bool, x: &[u8]) -> bool
 }
 
 // Whether the line has the form of A, or of a C, with n fields behind its letter.
-pub fn formed(head: bool, n: usize, x: &[u8]) -> bool
+pub(crate) fn formed(head: bool, n: usize, x: &[u8]) -> bool
     requires { ⌜ (0 < n) × (n ≤ length (cellsOf head)) ⌝ }
     ensures { λ r. ⌜ r ≡ lineFormed head n (split tab (now (x .entry))) ⌝ }
 {
@@ -87,7 +87,7 @@ pub fn formed(head: bool, n: usize, x: &[u8]) -> bool
 }
 
 // Where in a line of that form the field stands that stands at place p of its record; 0 where the line does not tell that field.
-pub fn place_of(head: bool, n: usize, x: &[u8], p: usize) -> usize
+pub(crate) fn place_of(head: bool, n: usize, x: &[u8], p: usize) -> usize
     requires { ⌜ FormedLine head n (now x) ⌝ }
     ensures { λ r. ⌜ r ≡ placeIn head n (split tab (now (x .entry))) p ⌝ }
 {

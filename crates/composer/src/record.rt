@@ -60,7 +60,7 @@ fn put_fields(head: bool, k: usize, n: usize, x: &[u8], out: &mut [u8])
 }
 
 // The record A of its line x.
-pub fn lay_header(x: &[u8], out: &mut [u8])
+pub(crate) fn lay_header(x: &[u8], out: &mut [u8])
     requires { ⌜ FormedLine true 8 (now x) × (length (now out) ≡ 128) ⌝ }
     ensures { λ _. ⌜ now (out .exit) ≡ lay recordA (behindLetter (split tab (now (x .entry)))) ⌝ }
 {
@@ -69,7 +69,7 @@ pub fn lay_header(x: &[u8], out: &mut [u8])
 }
 
 // The record C of a line x that tells k parts.
-pub fn lay_payment(k: usize, x: &[u8], out: &mut [u8])
+pub(crate) fn lay_payment(k: usize, x: &[u8], out: &mut [u8])
     requires { ⌜ (k ≤ 15) × (FormedLine false (12 + 2 * k) (now x) × (length (now out) ≡ 128 * section k)) ⌝ }
     ensures { λ _. ⌜ now (out .exit) ≡ lay (recordC k) (behindLetter (split tab (now (x .entry)))) ⌝ }
 {
@@ -78,7 +78,7 @@ pub fn lay_payment(k: usize, x: &[u8], out: &mut [u8])
 }
 
 // E after so many payments that come to these sums.
-pub fn put_end(count: u64, sums: Sums, out: &mut [u8])
+pub(crate) fn put_end(count: u64, sums: Sums, out: &mut [u8])
     requires { ⌜ (length (now out) ≡ 128) × Writable (totalsOf count sums) ⌝ }
     ensures { λ _. ⌜ now (out .exit) ≡ writeEnd (totalsOf count sums) ⌝ }
 {

@@ -26,10 +26,18 @@ refused-requires : tie.Need-refused-requires
 refused-requires c κs = search needs
 
 returns : tie.Need-returns
-returns c = call-refused _ _ (c .before .before .before .before .read-listing .ensures) (c .before .before .enum-told .given .1) (c .before .why .ensures) (c .refused .ensures)
+returns c =
+    let at-read-listing = c .before .before .before .before in
+    let at-enum-told = c .before .before in
+    call-refused _ _ (at-read-listing .read-listing .ensures) (at-enum-told .enum-told .given .1) (c .before .why .ensures) (c .refused .ensures)
 
 add-length : tie.Need-add-length
-add-length c = let t = call-told _ (c .before .before .before .before .before .before .args .out .now) (c .before .before .before .read-listing .ensures) (c .before .read .given .1) in let s = t .small in omega arith
+add-length c =
+    let at-start = c .before .before .before .before .before .before in
+    let at-read-listing = c .before .before .before in
+    let t = call-told _ (at-start .args .out .now) (at-read-listing .read-listing .ensures) (c .before .read .given .1) in
+    let s = t .small in
+    omega arith
 
 refuse-requires : tie.Need-refuse-requires
 refuse-requires c κs = search needs
@@ -38,16 +46,30 @@ refused-requires-2 : tie.Need-refused-requires-2
 refused-requires-2 c κs = search needs
 
 returns-2 : tie.Need-returns-2
-returns-2 c = call-short _ _ (c .before .before .before .before .before .before .read-listing .ensures) (c .before .before .before .before .read .given .1) (c .before .before .if1 .taken) (c .refused2 .ensures ∙ ap (λ (w : Refusal). writtenOf (refuses (w .number) (w .place))) (c .before .refuse .ensures))
+returns-2 c =
+    let at-read-listing = c .before .before .before .before .before .before in
+    let at-read = c .before .before .before .before in
+    let at-if1 = c .before .before in
+    call-short _ _ (at-read-listing .read-listing .ensures) (at-read .read .given .1) (at-if1 .if1 .taken)
+    (c .refused2 .ensures ∙ ap (λ (w : Refusal). writtenOf (refuses (w .number) (w .place))) (c .before .refuse .ensures))
 
 write-file-requires : tie.Need-write-file-requires
-write-file-requires c κs = call-ready _ (c .before .before .before .before .before .before .before .before .args .out .now) (c .before .before .before .before .before .read-listing .ensures) (c .before .before .before .read .given .1) (c .before .if1 .left)
+write-file-requires c κs =
+    let at-start = c .before .before .before .before .before .before .before .before in
+    let at-read-listing = c .before .before .before .before .before in
+    let at-read = c .before .before .before in
+    call-ready _ (at-start .args .out .now) (at-read-listing .read-listing .ensures) (at-read .read .given .1) (c .before .if1 .left)
 
 same-length : tie.Need-same-length
 same-length c = search needs
 
 returns-3 : tie.Need-returns-3
-returns-3 c = call-written _ _ (c .before .before .before .before .before .before .before .before .read-listing .ensures) (c .before .before .before .before .before .before .read .given .1) (c .before .before .before .before .if1 .left) (c .before .before .write-file .ensures)
+returns-3 c =
+    let at-read-listing = c .before .before .before .before .before .before .before .before in
+    let at-read = c .before .before .before .before .before .before in
+    let at-if1 = c .before .before .before .before in
+    let at-write-file = c .before .before in
+    call-written _ _ (at-read-listing .read-listing .ensures) (at-read .read .given .1) (at-if1 .if1 .left) (at-write-file .write-file .ensures)
 
 pub compose-spec : {M : Type 1} → statement M
 compose-spec =

@@ -49,13 +49,31 @@ why-requires : tie.Need-why-requires
 why-requires c κs = search needs
 
 refused-in-requires : tie.Need-refused-in-requires
-refused-in-requires c κs = let l = c .before .before .before .before .before .before .before .before .before .before .before .good .0 .1 in (formed (c .before .before .before .before .before .before .before .before), omega arith)
+refused-in-requires c κs =
+    let at-start = c .before .before .before .before .before .before .before .before .before .before .before in
+    let at-form = c .before .before .before .before .before .before .before .before in
+    let l = at-start .good .0 .1 in
+    (formed at-form, omega arith)
 
 returns-2 : tie.Need-returns-2
-returns-2 c = header-refuses _ _ (formed (c .before .before .before .before .before .before .before .before .before) .1 .1) (c .before .before .before .before .header-at .ensures ∙ ap (λ f. ofRead headers (readAt header f 0)) (c .before .before .before .before .before .before .before .lay-header .ensures)) (c .before .before .enum-told .given .1) (c .before .why .ensures) (c .refused-in .ensures)
+returns-2 c =
+    let at-form = c .before .before .before .before .before .before .before .before .before in
+    let at-lay-header = c .before .before .before .before .before .before .before in
+    let at-header-at = c .before .before .before .before in
+    let at-enum-told = c .before .before in
+    header-refuses _ _ (formed at-form .1 .1)
+    (at-header-at .header-at .ensures ∙ ap (λ f. ofRead headers (readAt header f 0)) (at-lay-header .lay-header .ensures))
+    (at-enum-told .enum-told .given .1) (c .before .why .ensures) (c .refused-in .ensures)
 
 returns-3 : tie.Need-returns-3
-returns-3 c = header-accepts _ _ (formed (c .before .before .before .before .before .before .before .before .before) .1 .1) (c .before .before .before .before .header-at .ensures ∙ ap (λ f. ofRead headers (readAt header f 0)) (c .before .before .before .before .before .before .before .lay-header .ensures)) (c .before .before .a .given .1)
+returns-3 c =
+    let at-form = c .before .before .before .before .before .before .before .before .before in
+    let at-lay-header = c .before .before .before .before .before .before .before in
+    let at-header-at = c .before .before .before .before in
+    let at-a = c .before .before in
+    header-accepts _ _ (formed at-form .1 .1)
+    (at-header-at .header-at .ensures ∙ ap (λ f. ofRead headers (readAt header f 0)) (at-lay-header .lay-header .ensures))
+    (at-a .a .given .1)
 
 pub header-line-spec : {M : Type 1} → statement M
 header-line-spec =

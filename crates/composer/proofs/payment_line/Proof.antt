@@ -88,7 +88,10 @@ refuse-requires : tie.Need-refuse-requires
 refuse-requires c κs = search needs
 
 returns : tie.Need-returns
-returns c = payment-denied _ _ _ _ _ (parts (c .before .before .before)) (c .refuse .ensures) (sym (c .before .before .formed .ensures) ∙ not-true _ (c .before .if1 .taken))
+returns c =
+    let at-parts = c .before .before .before in
+    let at-formed = c .before .before in
+    payment-denied _ _ _ _ _ (parts at-parts) (c .refuse .ensures) (sym (at-formed .formed .ensures) ∙ not-true _ (c .before .if1 .taken))
 
 bytes-of-requires : tie.Need-bytes-of-requires
 bytes-of-requires c κs = search needs
@@ -106,7 +109,9 @@ slice-reshare-prefix-payment-record : tie.Need-slice-reshare-prefix-payment-reco
 slice-reshare-prefix-payment-record c = begins-inside _ (laid (c .before .before)) (behind (c .before .before)) (laid-long (c .before .before))
 
 slice-aggregate-payment-record : tie.Need-slice-aggregate-payment-record
-slice-aggregate-payment-record c = sym (ap length (take-at (laid (c .before .before .before)) (behind (c .before .before .before)) _ (laid-long (c .before .before .before))) ∙ laid-long (c .before .before .before))
+slice-aggregate-payment-record c =
+    let at-laid = c .before .before .before in
+    sym (ap length (take-at (laid at-laid) (behind at-laid) _ (laid-long at-laid)) ∙ laid-long at-laid)
 
 payment-record-requires : tie.Need-payment-record-requires
 payment-record-requires c κs = search needs
@@ -121,19 +126,33 @@ why-requires : tie.Need-why-requires
 why-requires c κs = search needs
 
 refused-in-requires : tie.Need-refused-in-requires
-refused-in-requires c κs = (formed (c .before .before .before .before .before .before .before .before .before .before), c .before .before .before .before .before .before .before .before .before .before .before .before .before .before .before .before .pre .0)
+refused-in-requires c κs =
+    let at-start = c .before .before .before .before .before .before .before .before .before .before .before .before .before .before .before .before in
+    let at-form = c .before .before .before .before .before .before .before .before .before .before in
+    (formed at-form, at-start .pre .0)
 
 same-length : tie.Need-same-length
 same-length c = search needs
 
 returns-2 : tie.Need-returns-2
-returns-2 c = payment-refuses _ _ _ _ _ (parts (c .before .before .before .before .before .before .before .before .before .before .before .before .before)) (formed (c .before .before .before .before .before .before .before .before .before .before .before) .1 .1) (read (c .before .before .before .before)) (c .before .before .enum-told .given .1) (c .before .why .ensures) (c .refused-in .ensures)
+returns-2 c =
+    let at-parts = c .before .before .before .before .before .before .before .before .before .before .before .before .before in
+    let at-form = c .before .before .before .before .before .before .before .before .before .before .before in
+    let at-record = c .before .before .before .before in
+    let at-enum-told = c .before .before in
+    payment-refuses _ _ _ _ _ (parts at-parts) (formed at-form .1 .1) (read at-record) (at-enum-told .enum-told .given .1)
+    (c .before .why .ensures) (c .refused-in .ensures)
 
 same-length-2 : tie.Need-same-length-2
 same-length-2 c = search needs
 
 returns-3 : tie.Need-returns-3
-returns-3 c = payment-accepts _ _ _ _ _ (parts (c .before .before .before .before .before .before .before .before .before .before .before .before)) (formed (c .before .before .before .before .before .before .before .before .before .before) .1 .1) (read (c .before .before .before)) (c .before .c .given .1) (c .before .before .before .before .before .before .before .before .before .bytes-of .ensures)
+returns-3 c =
+    let at-parts = c .before .before .before .before .before .before .before .before .before .before .before .before in
+    let at-form = c .before .before .before .before .before .before .before .before .before .before in
+    let at-bytes-of = c .before .before .before .before .before .before .before .before .before in
+    let at-record = c .before .before .before in
+    payment-accepts _ _ _ _ _ (parts at-parts) (formed at-form .1 .1) (read at-record) (c .before .c .given .1) (at-bytes-of .bytes-of .ensures)
 
 pub payment-line-spec : {M : Type 1} → statement M
 payment-line-spec =

@@ -23,13 +23,23 @@ why-requires : tie.Need-why-requires
 why-requires c κs = search needs
 
 returns : tie.Need-returns
-returns c = stop-ruled numbers-told _ (start (wholePayment (lettersOf (c .before .before .before .before .before .args .kind)) (totalsOf (c .before .before .before .before .before .args .count) (c .before .before .before .before .before .args .sums))) 0) (c .before .before .before .length-at .ensures) (c .before .enum-told .given .1) (c .why .ensures)
+returns c =
+    let at-start = c .before .before .before .before .before in
+    let at-length-at = c .before .before .before in
+    stop-ruled numbers-told _
+    (start (wholePayment (lettersOf (at-start .args .kind)) (totalsOf (at-start .args .count) (at-start .args .sums))) 0)
+    (at-length-at .length-at .ensures) (c .before .enum-told .given .1) (c .why .ensures)
 
 payment-at-requires : tie.Need-payment-at-requires
 payment-at-requires c κs = search needs
 
 returns-2 : tie.Need-returns-2
-returns-2 c = c .payment-at .ensures ∙ sym (past-ruled (start (wholePayment (lettersOf (c .before .before .before .before .before .before .args .kind)) (totalsOf (c .before .before .before .before .before .before .args .count) (c .before .before .before .before .before .before .args .sums))) 0) (number-is _ _ _ (c .before .before .before .before .length-at .ensures) (c .before .before .first .given .1)) .owed)
+returns-2 c =
+    let at-start = c .before .before .before .before .before .before in
+    let at-length-at = c .before .before .before .before in
+    let at-first = c .before .before in
+    c .payment-at .ensures ∙ sym
+    (past-ruled (start (wholePayment (lettersOf (at-start .args .kind)) (totalsOf (at-start .args .count) (at-start .args .sums))) 0) (number-is _ _ _ (at-length-at .length-at .ensures) (at-first .first .given .1)) .owed)
 
 pub payment-record-spec : {M : Type 1} → statement M
 payment-record-spec =

@@ -39,19 +39,40 @@ why-requires : tie.Need-why-requires
 why-requires c κs = search needs
 
 returns-3 : tie.Need-returns-3
-returns-3 c = listing-refused _ _ (c .before .before .before .before .before .before .reach .ensures) (c .before .before .before .before .before .if1 .left) _ (c .before .before .before .header-line .ensures) (c .before .enum-told .given .1) (c .why .ensures)
+returns-3 c =
+    let at-reach = c .before .before .before .before .before .before in
+    let at-if1 = c .before .before .before .before .before in
+    let at-header-line = c .before .before .before in
+    listing-refused _ _ (at-reach .reach .ensures) (at-if1 .if1 .left) _ (at-header-line .header-line .ensures)
+    (c .before .enum-told .given .1) (c .why .ensures)
 
 add-read-payments : tie.Need-add-read-payments
-add-read-payments c = let h = first-within _ _ (c .before .before .before .before .before .before .reach .ensures) (c .before .before .before .before .before .if1 .left) in let g = c .before .before .before .before .before .before .before .before .good .1 in omega arith
+add-read-payments c =
+    let at-start = c .before .before .before .before .before .before .before .before in
+    let at-reach = c .before .before .before .before .before .before in
+    let at-if1 = c .before .before .before .before .before in
+    let h = first-within _ _ (at-reach .reach .ensures) (at-if1 .if1 .left) in
+    let g = at-start .good .1 in
+    omega arith
 
 slice-aggregate-read-payments : tie.Need-slice-aggregate-read-payments
 slice-aggregate-read-payments c = search needs
 
 read-payments-requires : tie.Need-read-payments-requires
-read-payments-requires c κs = let h = first-within _ _ (c .before .before .before .before .before .before .before .reach .ensures) (c .before .before .before .before .before .before .if1 .left) in (omega arith, refl)
+read-payments-requires c κs =
+    let at-reach = c .before .before .before .before .before .before .before in
+    let at-if1 = c .before .before .before .before .before .before in
+    let h = first-within _ _ (at-reach .reach .ensures) (at-if1 .if1 .left) in
+    (omega arith, refl)
 
 returns-4 : tie.Need-returns-4
-returns-4 c = listing-read _ _ (c .before .before .before .before .before .before .before .before .before .reach .ensures) (c .before .before .before .before .before .before .before .before .if1 .left) _ (c .before .before .before .before .before .before .header-line .ensures) (c .before .before .before .before .a .given .1) (c .before .read-payments .ensures)
+returns-4 c =
+    let at-reach = c .before .before .before .before .before .before .before .before .before in
+    let at-if1 = c .before .before .before .before .before .before .before .before in
+    let at-header-line = c .before .before .before .before .before .before in
+    let at-a = c .before .before .before .before in
+    listing-read _ _ (at-reach .reach .ensures) (at-if1 .if1 .left) _ (at-header-line .header-line .ensures) (at-a .a .given .1)
+    (c .before .read-payments .ensures)
 
 pub read-listing-spec : {M : Type 1} → statement M
 read-listing-spec =

@@ -33,7 +33,13 @@ part-payment-line-end : tie.Need-part-payment-line-end Inv-loop μ-loop
 part-payment-line-end c = line-inside _ _ _ (c .before .before .loop .inv .0 .inside) (c .before .reach .ensures) .1
 
 payment-line-requires : tie.Need-payment-line-requires Inv-loop μ-loop
-payment-line-requires c κs = let i = line-inside _ _ _ (c .before .before .before .before .loop .inv .0 .inside) (c .before .before .before .reach .ensures) in let g = c .before .before .before .before .before .before .before .good .0 .1 in (line-short _ _ _ (i .0) (i .1) (omega arith), c .before .before .before .before .loop .inv .1)
+payment-line-requires c κs =
+    let at-start = c .before .before .before .before .before .before .before in
+    let at-loop = c .before .before .before .before in
+    let at-reach = c .before .before .before in
+    let i = line-inside _ _ _ (at-loop .loop .inv .0 .inside) (at-reach .reach .ensures) in
+    let g = at-start .good .0 .1 in
+    (line-short _ _ _ (i .0) (i .1) (omega arith), at-loop .loop .inv .1)
 
 enum-known-c : tie.Need-enum-known-c Inv-loop μ-loop
 enum-known-c c = search needs
@@ -45,25 +51,73 @@ why-requires : tie.Need-why-requires Inv-loop μ-loop
 why-requires c κs = search needs
 
 same-length : tie.Need-same-length Inv-loop μ-loop
-same-length c = c .before .before .before .before .before .payment-line .kept .1 .1 .1 .1 .1 .0 ∙ c .before .before .before .before .before .before .before .before .before .before .loop .inv .1 ∙ sym (c .before .before .before .before .before .before .before .before .before .before .before .before .before .pre .1)
+same-length c =
+    let at-start = c .before .before .before .before .before .before .before .before .before .before .before .before .before in
+    let at-loop = c .before .before .before .before .before .before .before .before .before .before in
+    let at-payment-line = c .before .before .before .before .before in
+    at-payment-line .payment-line .kept .1 .1 .1 .1 .1 .0 ∙ at-loop .loop .inv .1 ∙ sym (at-start .pre .1)
 
 returns : tie.Need-returns Inv-loop μ-loop
-returns c = let d = heard-refused _ _ _ _ _ (c .before .before .before .before .before .payment-line .ensures) (c .before .enum-told .given .1) (c .why .ensures) in reading-refused (c .before .before .before .before .before .before .before .before .before .before .loop .inv .0) (c .before .before .before .before .before .before .before .before .before .reach .result) (c .before .before .before .before .before .before .before .before .before .reach .ensures) (c .before .before .before .before .before .before .before .before .if1 .left) d.2 d.3
+returns c =
+    let at-loop = c .before .before .before .before .before .before .before .before .before .before in
+    let at-reach = c .before .before .before .before .before .before .before .before .before in
+    let at-if1 = c .before .before .before .before .before .before .before .before in
+    let at-payment-line = c .before .before .before .before .before in
+    let d = heard-refused _ _ _ _ _ (at-payment-line .payment-line .ensures) (c .before .enum-told .given .1) (c .why .ensures) in
+    reading-refused (at-loop .loop .inv .0) (at-reach .reach .result) (at-reach .reach .ensures) (at-if1 .if1 .left) d.2 d.3
 
 add-count : tie.Need-add-count Inv-loop μ-loop
-add-count c = let h = one-more (c .before .before .before .before .before .before .before .before .before .before .loop .inv .0) (c .before .before .before .before .before .before .before .before .before .reach .result) (c .before .before .before .before .before .before .before .before .before .reach .ensures) (c .before .before .before .before .before .before .before .before .if1 .left) (heard-is _ _ _ _ _ (c .before .before .before .before .before .payment-line .ensures) (c .before .c .given .1)) in omega arith
+add-count c =
+    let at-loop = c .before .before .before .before .before .before .before .before .before .before in
+    let at-reach = c .before .before .before .before .before .before .before .before .before in
+    let at-if1 = c .before .before .before .before .before .before .before .before in
+    let at-payment-line = c .before .before .before .before .before in
+    let h = one-more (at-loop .loop .inv .0) (at-reach .reach .result) (at-reach .reach .ensures) (at-if1 .if1 .left)
+    (heard-is _ _ _ _ _ (at-payment-line .payment-line .ensures) (c .before .c .given .1)) in
+    omega arith
 
 add-size : tie.Need-add-size Inv-loop μ-loop
-add-size c = let h = heard-is _ _ _ _ _ (c .before .before .before .before .before .payment-line .ensures) (c .before .c .given .1) in let o = one-more (c .before .before .before .before .before .before .before .before .before .before .loop .inv .0) (c .before .before .before .before .before .before .before .before .before .reach .result) (c .before .before .before .before .before .before .before .before .before .reach .ensures) (c .before .before .before .before .before .before .before .before .if1 .left) h in let r = record-small (c .before .before .before .before .before .before .before .before .before .before .loop .inv .0) (c .before .before .before .before .before .before .before .before .before .reach .result) (c .before .before .before .before .before .before .before .before .before .reach .ensures) (c .before .before .before .before .before .before .before .before .if1 .left) h in let s = c .before .before .before .before .before .before .before .before .before .before .loop .inv .0 .small in omega arith
+add-size c =
+    let at-loop = c .before .before .before .before .before .before .before .before .before .before in
+    let at-reach = c .before .before .before .before .before .before .before .before .before in
+    let at-if1 = c .before .before .before .before .before .before .before .before in
+    let at-payment-line = c .before .before .before .before .before in
+    let h = heard-is _ _ _ _ _ (at-payment-line .payment-line .ensures) (c .before .c .given .1) in
+    let o = one-more (at-loop .loop .inv .0) (at-reach .reach .result) (at-reach .reach .ensures) (at-if1 .if1 .left) h in
+    let r = record-small (at-loop .loop .inv .0) (at-reach .reach .result) (at-reach .reach .ensures) (at-if1 .if1 .left) h in
+    let s = at-loop .loop .inv .0 .small in
+    omega arith
 
 add-p : tie.Need-add-p Inv-loop μ-loop
-add-p c = let i = line-inside _ _ _ (c .before .before .before .before .before .before .before .before .before .before .loop .inv .0 .inside) (c .before .before .before .before .before .before .before .before .before .reach .ensures) .1 in let g = c .before .before .before .before .before .before .before .before .before .before .before .before .before .good .0 .1 in omega arith
+add-p c =
+    let at-start = c .before .before .before .before .before .before .before .before .before .before .before .before .before in
+    let at-loop = c .before .before .before .before .before .before .before .before .before .before in
+    let at-reach = c .before .before .before .before .before .before .before .before .before in
+    let i = line-inside _ _ _ (at-loop .loop .inv .0 .inside) (at-reach .reach .ensures) .1 in
+    let g = at-start .good .0 .1 in
+    omega arith
 
 loop-less : tie.Need-loop-less Inv-loop μ-loop
-loop-less c = let h = one-more (c .before .before .before .before .before .before .before .before .before .before .loop .inv .0) (c .before .before .before .before .before .before .before .before .before .reach .result) (c .before .before .before .before .before .before .before .before .before .reach .ensures) (c .before .before .before .before .before .before .before .before .if1 .left) (heard-is _ _ _ _ _ (c .before .before .before .before .before .payment-line .ensures) (c .before .c .given .1)) in omega arith
+loop-less c =
+    let at-loop = c .before .before .before .before .before .before .before .before .before .before in
+    let at-reach = c .before .before .before .before .before .before .before .before .before in
+    let at-if1 = c .before .before .before .before .before .before .before .before in
+    let at-payment-line = c .before .before .before .before .before in
+    let h = one-more (at-loop .loop .inv .0) (at-reach .reach .result) (at-reach .reach .ensures) (at-if1 .if1 .left)
+    (heard-is _ _ _ _ _ (at-payment-line .payment-line .ensures) (c .before .c .given .1)) in
+    omega arith
 
 loop-again : tie.Need-loop-again Inv-loop μ-loop
-loop-again c = (reading-more (c .before .before .before .before .before .before .before .before .before .before .loop .inv .0) (c .before .before .before .before .before .before .before .before .before .reach .result) (c .before .before .before .before .before .before .before .before .before .reach .ensures) (c .before .before .before .before .before .before .before .before .if1 .left) (heard-is _ _ _ _ _ (c .before .before .before .before .before .payment-line .ensures) (c .before .c .given .1)), c .before .before .before .before .before .payment-line .kept .1 .1 .1 .1 .1 .0 ∙ c .before .before .before .before .before .before .before .before .before .before .loop .inv .1)
+loop-again c =
+    let at-loop = c .before .before .before .before .before .before .before .before .before .before in
+    let at-reach = c .before .before .before .before .before .before .before .before .before in
+    let at-if1 = c .before .before .before .before .before .before .before .before in
+    let at-payment-line = c .before .before .before .before .before in (
+      reading-more (at-loop .loop .inv .0) (at-reach .reach .result) (at-reach .reach .ensures) (at-if1 .if1 .left)
+          (heard-is _ _ _ _ _ (at-payment-line .payment-line .ensures) (c .before .c .given .1)),
+      at-payment-line .payment-line .kept .1 .1 .1 .1 .1 .0
+          ∙ at-loop .loop .inv .1,
+    )
 
 refuse-requires : tie.Need-refuse-requires Inv-loop μ-loop
 refuse-requires c κs = search needs
@@ -72,22 +126,41 @@ same-length-2 : tie.Need-same-length-2 Inv-loop μ-loop
 same-length-2 c = c .before .before .before .before .loop .inv .1 ∙ sym (c .before .before .before .before .before .before .before .pre .1)
 
 returns-2 : tie.Need-returns-2 Inv-loop μ-loop
-returns-2 c = reading-cut (c .before .before .before .before .loop .inv .0) (c .before .before .before .reach .result) (c .before .before .before .reach .ensures) (c .before .before .if1 .taken) (c .before .if2 .taken) (c .refuse .ensures)
+returns-2 c =
+    let at-loop = c .before .before .before .before in
+    let at-reach = c .before .before .before in
+    let at-if1 = c .before .before in
+    reading-cut (at-loop .loop .inv .0) (at-reach .reach .result) (at-reach .reach .ensures) (at-if1 .if1 .taken)
+    (c .before .if2 .taken) (c .refuse .ensures)
 
 refuse-requires-2 : tie.Need-refuse-requires-2 Inv-loop μ-loop
 refuse-requires-2 c κs = search needs
 
 same-length-3 : tie.Need-same-length-3 Inv-loop μ-loop
-same-length-3 c = c .before .before .before .before .before .loop .inv .1 ∙ sym (c .before .before .before .before .before .before .before .before .pre .1)
+same-length-3 c =
+    let at-start = c .before .before .before .before .before .before .before .before in
+    let at-loop = c .before .before .before .before .before in
+    at-loop .loop .inv .1 ∙ sym (at-start .pre .1)
 
 returns-3 : tie.Need-returns-3 Inv-loop μ-loop
-returns-3 c = reading-none (c .before .before .before .before .before .loop .inv .0) (c .before .before .before .before .reach .result) (c .before .before .before .before .reach .ensures) (c .before .before .before .if1 .taken) (c .before .before .if2 .left) (c .before .if3 .taken) (c .refuse2 .ensures)
+returns-3 c =
+    let at-loop = c .before .before .before .before .before in
+    let at-reach = c .before .before .before .before in
+    let at-if1 = c .before .before .before in
+    let at-if2 = c .before .before in
+    reading-none (at-loop .loop .inv .0) (at-reach .reach .result) (at-reach .reach .ensures) (at-if1 .if1 .taken) (at-if2 .if2 .left)
+    (c .before .if3 .taken) (c .refuse2 .ensures)
 
 same-length-4 : tie.Need-same-length-4 Inv-loop μ-loop
 same-length-4 c = c .before .before .before .before .loop .inv .1 ∙ sym (c .before .before .before .before .before .before .before .pre .1)
 
 returns-4 : tie.Need-returns-4 Inv-loop μ-loop
-returns-4 c = reading-ends (c .before .before .before .before .loop .inv .0) (c .before .before .before .reach .result) (c .before .before .before .reach .ensures) (c .before .before .if1 .taken) (c .before .if2 .left) (c .if3 .left)
+returns-4 c =
+    let at-loop = c .before .before .before .before in
+    let at-reach = c .before .before .before in
+    let at-if1 = c .before .before in
+    reading-ends (at-loop .loop .inv .0) (at-reach .reach .result) (at-reach .reach .ensures) (at-if1 .if1 .taken)
+    (c .before .if2 .left) (c .if3 .left)
 
 pub read-payments-spec : {M : Type 1} → statement M
 read-payments-spec =

@@ -19,25 +19,54 @@ reach-requires : tie.Need-reach-requires
 reach-requires c κs = search needs
 
 slice-aggregate-lay-header : tie.Need-slice-aggregate-lay-header
-slice-aggregate-lay-header c = let w = line-within (c .before .before .before .before .pre) (c .before .reach .ensures) in sym (length-take-le _ _ (omega arith))
+slice-aggregate-lay-header c =
+    let at-start = c .before .before .before .before in
+    let w = line-within (at-start .pre) (c .before .reach .ensures) in
+    sym (length-take-le _ _ (omega arith))
 
 slice-relend-prefix-lay-header : tie.Need-slice-relend-prefix-lay-header
 slice-relend-prefix-lay-header c = let r = room (c .before .before .before .before .pre) in omega arith
 
 slice-aggregate-lay-header-2 : tie.Need-slice-aggregate-lay-header-2
-slice-aggregate-lay-header-2 c = let r = room (c .before .before .before .before .before .pre) in sym (length-take-le _ (c .before .before .before .before .before .args .out .now) (omega arith))
+slice-aggregate-lay-header-2 c =
+    let at-start = c .before .before .before .before .before in
+    let r = room (at-start .pre) in
+    sym (length-take-le _ (at-start .args .out .now) (omega arith))
 
 lay-header-requires : tie.Need-lay-header-requires
-lay-header-requires c κs = let r = room (c .before .before .before .before .before .pre) in (head-is (c .before .before .before .before .before .pre) (c .before .before .reach .ensures) .0, length-take-le _ (c .before .before .before .before .before .args .out .now) (omega arith))
+lay-header-requires c κs =
+    let at-start = c .before .before .before .before .before in
+    let at-reach = c .before .before in
+    let r = room (at-start .pre) in
+    (head-is (at-start .pre) (at-reach .reach .ensures) .0, length-take-le _ (at-start .args .out .now) (omega arith))
 
 add-write-payments : tie.Need-add-write-payments
-add-write-payments c = let w = line-within (c .before .before .before .before .before .before .before .before .pre) (c .before .before .before .before .before .reach .ensures) in let g = c .before .before .before .before .before .before .before .before .good .0 .1 in omega arith
+add-write-payments c =
+    let at-start = c .before .before .before .before .before .before .before .before in
+    let at-reach = c .before .before .before .before .before in
+    let w = line-within (at-start .pre) (at-reach .reach .ensures) in
+    let g = at-start .good .0 .1 in
+    omega arith
 
 write-payments-requires : tie.Need-write-payments-requires
-write-payments-requires c κs = payments-accepted (c .before .before .before .before .before .before .before .before .before .pre) (c .before .before .before .before .before .before .reach .ensures) (first-long (c .before .before .before .before .before .before .before .before .before .args .out .now) (c .before .before .before .before .before .before .before .before .before .pre) (c .before .before .before .before .before .before .reach .ensures) (c .before .before .before .lay-header .ensures))
+write-payments-requires c κs =
+    let at-start = c .before .before .before .before .before .before .before .before .before in
+    let at-reach = c .before .before .before .before .before .before in
+    let at-lay-header = c .before .before .before in
+    payments-accepted (at-start .pre) (at-reach .reach .ensures)
+    (first-long (at-start .args .out .now) (at-start .pre) (at-reach .reach .ensures) (at-lay-header .lay-header .ensures))
 
 add-put-end : tie.Need-add-put-end
-add-put-end c = let h = ending c in let o = c .before .before .write-payments .kept .1 .1 .1 .0 in let f = first-long (c .before .before .before .before .before .before .before .before .before .before .before .before .args .out .now) (c .before .before .before .before .before .before .before .before .before .before .before .before .pre) (c .before .before .before .before .before .before .before .before .before .reach .ensures) (c .before .before .before .before .before .before .lay-header .ensures) in let g = c .before .before .before .before .before .before .before .before .before .before .before .before .good .1 .0 .0 in omega arith
+add-put-end c =
+    let at-start = c .before .before .before .before .before .before .before .before .before .before .before .before in
+    let at-reach = c .before .before .before .before .before .before .before .before .before in
+    let at-lay-header = c .before .before .before .before .before .before in
+    let at-write-payments = c .before .before in
+    let h = ending c in
+    let o = at-write-payments .write-payments .kept .1 .1 .1 .0 in
+    let f = first-long (at-start .args .out .now) (at-start .pre) (at-reach .reach .ensures) (at-lay-header .lay-header .ensures) in
+    let g = at-start .good .1 .0 .0 in
+    omega arith
 
 sub-put-end : tie.Need-sub-put-end
 sub-put-end c = search needs
@@ -49,13 +78,23 @@ part-put-end-end : tie.Need-part-put-end-end
 part-put-end-end c = ending c
 
 put-end-requires : tie.Need-put-end-requires
-put-end-requires c κs = (part-long _ 128 _ (ending (c .before)), writable (c .before .before .before .before .before .before .before .before .before .before .before .before .before .pre))
+put-end-requires c κs =
+    let at-start = c .before .before .before .before .before .before .before .before .before .before .before .before .before in
+    (part-long _ 128 _ (ending (c .before)), writable (at-start .pre))
 
 same-length : tie.Need-same-length
 same-length c = search needs
 
 returns : tie.Need-returns
-returns c = file-written (c .before .before .before .before .before .before .before .before .before .before .before .before .before .before .before .before .args .out .now) (c .before .before .before .before .before .before .before .before .before .before .before .before .before .before .before .before .pre) (c .before .before .before .before .before .before .before .before .before .before .before .before .before .reach .ensures) (c .before .before .before .before .before .before .before .before .before .before .lay-header .ensures) (c .before .before .before .before .before .before .write-payments .ensures .0) (c .before .before .before .before .before .before .write-payments .ensures .1) (c .before .before .put-end .ensures)
+returns c =
+    let at-start = c .before .before .before .before .before .before .before .before .before .before .before .before .before .before .before .before in
+    let at-reach = c .before .before .before .before .before .before .before .before .before .before .before .before .before in
+    let at-lay-header = c .before .before .before .before .before .before .before .before .before .before in
+    let at-write-payments = c .before .before .before .before .before .before in
+    let at-put-end = c .before .before in
+    file-written (at-start .args .out .now) (at-start .pre) (at-reach .reach .ensures)
+    (at-lay-header .lay-header .ensures) (at-write-payments .write-payments .ensures .0)
+    (at-write-payments .write-payments .ensures .1) (at-put-end .put-end .ensures)
 
 pub write-file-spec : {M : Type 1} → statement M
 write-file-spec =

@@ -64,7 +64,17 @@ same-length : tie.Need-same-length
 same-length c = search needs
 
 returns : tie.Need-returns
-returns c = let l = c .before .before in (ap (λ n. c .before .before .before .before .before .before .before .before .before .args .at + n) (size (c .before .before .before .before)), part-over (c .before .before .before .before .before .before .before .before .before .args .at) (c .before .before .before .before .bytes-of .result) (l .lay-payment .last .1 .1 .0) (c .before .before .before .before .before .before .before .before .before .args .out .now) (l .lay-payment .kept .1 .1 .0 ∙ part-long _ _ _ (room (c .before .before .before .before))) ∙ ap (λ f. over (c .before .before .before .before .before .before .before .before .before .args .at) f (c .before .before .before .before .before .before .before .before .before .args .out .now)) (l .lay-payment .ensures ∙ ap (λ k. lay (recordC k) (behindLetter (split tab (c .before .before .before .before .before .before .before .before .before .args .x .now)))) (parts (c .before .before .before .before .before))))
+returns c =
+    let at-start = c .before .before .before .before .before .before .before .before .before in
+    let at-parts = c .before .before .before .before .before in
+    let at-bytes-of = c .before .before .before .before in
+    let l = c .before .before in (
+      ap (λ n. at-start .args .at + n) (size at-bytes-of),
+      part-over (at-start .args .at) (at-bytes-of .bytes-of .result)
+          (l .lay-payment .last .1 .1 .0) (at-start .args .out .now) (l .lay-payment .kept .1 .1 .0 ∙ part-long _ _ _ (room at-bytes-of)) ∙ ap
+          (λ f. over (at-start .args .at) f (at-start .args .out .now))
+          (l .lay-payment .ensures ∙ ap (λ k. lay (recordC k) (behindLetter (split tab (at-start .args .x .now)))) (parts at-parts)),
+    )
 
 pub write-payment-spec : {M : Type 1} → statement M
 write-payment-spec =

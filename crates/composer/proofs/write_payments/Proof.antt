@@ -43,7 +43,13 @@ write-payment-requires : tie.Need-write-payment-requires Inv-loop μ-loop
 write-payment-requires c κs = let n = coming (c .before .before) in let w = line-written _ _ _ _ _ (n .composed) in (w .form, next-room _ _ _ _ n w)
 
 add-p : tie.Need-add-p Inv-loop μ-loop
-add-p c = let i = line-inside _ _ _ (c .before .before .before .before .before .before .before .loop .inv .inside) (c .before .before .before .before .before .reach .ensures) .1 in let g = c .before .before .before .before .before .before .before .before .before .before .good .0 .1 in omega arith
+add-p c =
+    let at-start = c .before .before .before .before .before .before .before .before .before .before in
+    let at-loop = c .before .before .before .before .before .before .before in
+    let at-reach = c .before .before .before .before .before in
+    let i = line-inside _ _ _ (at-loop .loop .inv .inside) (at-reach .reach .ensures) .1 in
+    let g = at-start .good .0 .1 in
+    omega arith
 
 add-row : tie.Need-add-row Inv-loop μ-loop
 add-row c = let h = c .before .before .before .before .before .before .loop-test .taken in omega arith
@@ -52,7 +58,13 @@ loop-less : tie.Need-loop-less Inv-loop μ-loop
 loop-less c = let h = c .before .before .before .before .before .before .loop-test .taken in omega arith
 
 loop-again : tie.Need-loop-again Inv-loop μ-loop
-loop-again c = let n = coming (c .before .before .before .before .before) in putting-more (c .before .before .before .before .before .before .before .loop .inv) (left (c .before .before .before .before .before)) _ (c .before .before .before .before .before .reach .ensures) n (line-written _ _ _ _ _ (n .composed)) (c .before .before .write-payment .ensures .0) (c .before .before .write-payment .ensures .1)
+loop-again c =
+    let at-loop = c .before .before .before .before .before .before .before in
+    let at-reach = c .before .before .before .before .before in
+    let at-write-payment = c .before .before in
+    let n = coming at-reach in
+    putting-more (at-loop .loop .inv) (left at-reach) _ (at-reach .reach .ensures) n
+    (line-written _ _ _ _ _ (n .composed)) (at-write-payment .write-payment .ensures .0) (at-write-payment .write-payment .ensures .1)
 
 same-length : tie.Need-same-length Inv-loop μ-loop
 same-length c = c .before .loop .inv .long

@@ -15,7 +15,10 @@ add-put-fields : tie.Need-add-put-fields
 add-put-fields c = search needs
 
 put-fields-requires : tie.Need-put-fields-requires
-put-fields-requires c κs = record { line = c .before .before .before .before .before .before .before .pre .1 .0; cells = fields-first _ (c .before .before .before .before .before .before .before .pre .0); own = c .before .before .before .own-of-c .ensures }
+put-fields-requires c κs =
+    let at-start = c .before .before .before .before .before .before .before in
+    let at-own-of-c = c .before .before .before in
+    record { line = at-start .pre .1 .0; cells = fields-first _ (at-start .pre .0); own = at-own-of-c .own-of-c .ensures }
 
 same-length : tie.Need-same-length
 same-length c = search needs
