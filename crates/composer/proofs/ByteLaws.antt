@@ -13,7 +13,7 @@ use borrow.Author.Tests.{eqb-true, eqb-false, eq-eqb, ne-eqb}
 use Rattle.fields.proofs.StretchLaws.{and-true}
 use Rattle.listing.specs.Lines.{tab, onto, split, endsInBlank}
 use Rattle.listing.proofs.LineLaws.{Some, some, split-some}
-use Rattle.composer.specs.Telling.{letterOf}
+use Rattle.pen.specs.Walking.{letterOf}
 use Rattle.composer.proofs.WalkLaws.{begins, at-begun}
 
 -- ---- how many fields

@@ -18,8 +18,8 @@ use Rattle.listing.specs.Lines.{tab, split, endsInBlank}
 use Rattle.listing.specs.Records.{Cell, inLine, wide, fieldFormed, formed}
 use Rattle.listing.proofs.LineLaws.{Some, some, split-some}
 use Rattle.pen.specs.declared.Cell.{Cell as CodeCell}
-use Rattle.pen.specs.Walking.{reach, cellOf, cellsOf, cellAt}
-use Rattle.composer.specs.Telling.{wideAs, formedAs, letterOf, lineFormed, behindLetter, FormedLine, placeIn}
+use Rattle.pen.specs.Walking.{letterOf, reach, cellOf, cellsOf, cellAt}
+use Rattle.composer.specs.Telling.{wideAs, formedAs, lineFormed, behindLetter, FormedLine, placeIn}
 use Rattle.composer.proofs.ByteLaws.{refuted}
 use Rattle.composer.proofs.WalkLaws.{begins, letter-parted, formed-count, formed-begins, At, at-begun, at-first, at-field, at-next}
 

@@ -20,8 +20,8 @@ use Rattle.listing.specs.Lines.{tab, behindTabs, split}
 use Rattle.listing.specs.Records.{Piece, Cell, cells, lay, inLine}
 use Rattle.listing.specs.Composing.{denied, heard, composeLine}
 use Rattle.listing.proofs.LineLaws.{line-from}
-use Rattle.pen.specs.Walking.{cellsOf}
-use Rattle.composer.specs.Telling.{letterOf, lineFormed, behindLetter, FormedLine, placeIn, tells}
+use Rattle.pen.specs.Walking.{letterOf, cellsOf}
+use Rattle.composer.specs.Telling.{lineFormed, behindLetter, FormedLine, placeIn, tells}
 
 -- ---- the form
 

@@ -17,9 +17,9 @@ use Rattle.listing.specs.Lines.{tab, behindTabs, split}
 use Rattle.listing.specs.Records.{formed}
 use Rattle.listing.proofs.LineLaws.{clear, split-sign, line-from}
 use Rattle.listing.proofs.RecordLaws.{formed-length}
-use Rattle.pen.specs.Walking.{reach, cellsOf}
+use Rattle.pen.specs.Walking.{letterOf, reach, cellsOf}
 use Rattle.pen.proofs.ReachLaws.{reach-le, pieces-more, pieces-last}
-use Rattle.composer.specs.Telling.{letterOf, lineFormed, behindLetter, FormedLine}
+use Rattle.composer.specs.Telling.{lineFormed, behindLetter, FormedLine}
 
 -- ---- the letter
 

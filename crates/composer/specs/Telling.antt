@@ -6,7 +6,6 @@ use mathlib.Core.List.{List, [], _∷_}
 use lib.ListN.{length, take}
 use lib.Dec.{leb, eqb}
 use Rattle.form.specs.Kind.{same}
-use Rattle.rules.specs.Signs.{ascii}
 use Rattle.rules.specs.Values.{Header, Payment, Document, Totals, totals}
 use Rattle.rules.specs.Writing.{writePayment, writePayments}
 use Rattle.fields.specs.declared.Refusal.{Refusal}
@@ -22,7 +21,7 @@ use Rattle.listing.specs.Lines.{tab, split, endsInBlank}
 use Rattle.listing.specs.Records.{partsOf, formed, inLine}
 use Rattle.listing.specs.Composing.{Composed, made, denied}
 use Rattle.pen.specs.declared.Cell.{Cell}
-use Rattle.pen.specs.Walking.{cellsOf}
+use Rattle.pen.specs.Walking.{letterOf, cellsOf}
 use Rattle.composer.specs.declared.LinesRead.{LinesRead}
 use Rattle.composer.specs.declared.LinesRead.the-variants as lines
 
@@ -34,10 +33,6 @@ wideAs c n = eqb n (c .width) || ((c .text && leb n (c .width)) || (c .optional 
 
 abbrev pub formedAs : Cell → List ℕ → Bool
 formedAs c t = wideAs c (length t) && not (endsInBlank t)
-
-abbrev pub letterOf : Bool → List ℕ
-letterOf true = ascii "A"
-letterOf false = ascii "C"
 
 -- the letter, and n fields behind it, each of its form
 abbrev pub lineFormed : Bool → ℕ → List (List ℕ) → Bool

@@ -3,7 +3,7 @@ use Prim.Native.Nat.{ℕ, _+_, _^_, _≤_, _<_}
 use mathlib.Core.Path.{_≡_}
 use mathlib.Core.Bool.{Bool}
 use mathlib.Core.List.{List, []}
-use lib.ListN.{length, take, drop}
+use lib.ListN.{length, take}
 use Rattle.rules.specs.Values.{Payment, Document, Totals, totals}
 use Rattle.rules.specs.Writing.{write, writePayments}
 use Rattle.listing.specs.Lines.{lineEnd}

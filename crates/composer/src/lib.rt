@@ -12,7 +12,7 @@ ghost use Rattle.sums.specs.Sums.{totalsOf};
 ghost use Rattle.listing.specs.Lines.{tab, lineEnd, split};
 ghost use Rattle.listing.specs.Records.{recordC, partsOf, lay};
 ghost use Rattle.listing.specs.Composing.{wholePayment, composeHeader, composePayment, composePayments, compose};
-ghost use Rattle.listing.specs.Endings.{refuses, composed, within, bytesOf};
+ghost use Rattle.listing.specs.Endings.{composed, within, bytesOf};
 ghost use Rattle.pen.specs.Writing.{over, writtenOf};
 ghost use Rattle.composer.specs.Telling.{FormedLine, PaymentLine, behindLetter, linesParts, placeIn, headTold, paymentTold, paymentsTold, listingTold, linesWhy};
 ghost use Rattle.composer.specs.Writing.{paymentsOf, Accepted, Ready};
@@ -27,12 +27,8 @@ use pen::Written;
 use sums::Sums;
 
 mod line;
+mod offsets;
 mod record;
-
-// Behind the letter: the fields of A's line, and those that every C's has.
-const FIELDS_OF_A: usize = 8;
-
-const FIELDS_OF_C: usize = 12;
 
 // What the payments of a listing come to, and how many bytes they take in the file.
 enum LinesRead {
@@ -64,14 +60,14 @@ fn refused_in(head: bool, n: usize, x: &[u8], p: usize, why: Refusal) -> Refusal
 fn header_line(x: &[u8]) -> KindRead
     ensures { λ r. ⌜ r ≡ headTold (length (now (x .entry))) (composeHeader (split tab (now (x .entry)))) ⌝ }
 {
-    if !line::formed(true, FIELDS_OF_A, x) {
+    if !line::formed(true, pen::FIELDS_OF_A, x) {
         return KindRead::Refused(fields::refuse(numbers::NO_LINE, 0));
     }
     let mut laid = [b' '; 128];
     record::lay_header(x, &mut laid);
     let a = header::header_at(&laid, 0);
     let HeaderRead::Is(h, _) = a else {
-        return KindRead::Refused(refused_in(true, FIELDS_OF_A, x, 0, a.why()));
+        return KindRead::Refused(refused_in(true, pen::FIELDS_OF_A, x, 0, a.why()));
     };
     let kind = h.kind;
     KindRead::Is(kind, x.len())
@@ -115,7 +111,7 @@ fn payment_line(
     ensures { λ r. ⌜ r ≡ paymentTold sums (composePayment (lettersOf kind) (totalsOf count sums) p (split tab (now (x .entry)))) ⌝ }
 {
     let k = parts_of(line::count_fields(x));
-    let n = FIELDS_OF_C + 2 * k;
+    let n = pen::FIELDS_OF_C + 2 * k;
     if !line::formed(false, n, x) {
         return PaymentRead::Refused(fields::refuse(numbers::NO_LINE, p));
     }
@@ -220,17 +216,6 @@ fn write_file(l: &[u8], count: u64, sums: Sums, out: &mut [u8])
     record::put_end(count, sums, &mut out[end..end + 128]);
 }
 
-// A refused call has written nothing.
-fn refused(why: Refusal) -> Written
-    ensures { λ r. ⌜ r ≡ writtenOf (refuses (why .number) (why .place)) ⌝ }
-{
-    Written {
-        number: why.number,
-        place: why.place,
-        length: 0,
-    }
-}
-
 // Composes the file of a listing. What a refused call is lent it leaves as it was.
 pub fn compose(l: &[u8], out: &mut [u8]) -> Written
     ensures answer { λ r. ⌜ r ≡ writtenOf (within (length (now (out .entry))) (composed (compose (now (l .entry))))) ⌝ }
@@ -238,11 +223,12 @@ pub fn compose(l: &[u8], out: &mut [u8]) -> Written
 {
     let read = read_listing(l);
     let LinesRead::Are(count, sums, size) = read else {
-        return refused(read.why());
+        let why = read.why();
+        return pen::refused(why.number, why.place);
     };
     let length = 256 + size;
     if out.len() < length {
-        return refused(fields::refuse(numbers::NO_ROOM, 0));
+        return pen::refused(numbers::NO_ROOM, 0);
     }
     write_file(l, count, sums, out);
     Written {

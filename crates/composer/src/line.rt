@@ -5,9 +5,8 @@ ghost use mathlib.Core.List.{[], _∷_, _++_};
 ghost use lib.ListN.{length, take};
 ghost use Rattle.form.specs.Kind.{same};
 ghost use Rattle.listing.specs.Lines.{tab, split, endsInBlank};
-ghost use Rattle.pen.specs.Walking.{cellsOf};
-ghost use Rattle.composer.specs.Telling.{letterOf, formedAs, lineFormed, FormedLine, placeIn};
-use fields::fixed;
+ghost use Rattle.pen.specs.Walking.{letterOf, cellsOf};
+ghost use Rattle.composer.specs.Telling.{formedAs, lineFormed, FormedLine, placeIn};
 use pen::Cell;
 
 // How many fields there are, the letter among them.
@@ -52,11 +51,7 @@ fn begins(head: bool, x: &[u8]) -> bool
     if x.len() < 2 {
         return false;
     }
-    let mut letter = fixed::LETTER_C[0];
-    if head {
-        letter = fixed::LETTER_A[0];
-    }
-    (x[0] == letter) & (x[1] == pen::TAB)
+    (x[0] == pen::letter(head)) & (x[1] == pen::TAB)
 }
 
 // Whether the line has the form of A, or of a C, with n fields behind its letter.

@@ -11,6 +11,7 @@ ghost use Rattle.listing.specs.Records.{recordA, recordC, lay};
 ghost use Rattle.pen.specs.Walking.{recordOf};
 ghost use Rattle.composer.specs.Telling.{FormedLine, behindLetter};
 ghost use Rattle.composer.specs.Writing.{Layable, Writable};
+use crate::offsets;
 use fields::fixed;
 use fields::lengths;
 use sums::Sums;
@@ -21,9 +22,9 @@ fn own_of_a(out: &mut [u8])
     ensures { λ _. ⌜ now (out .exit) ≡ lay recordA [] ⌝ }
 {
     pen::blank(out);
-    pen::put(out, 0, &fixed::LENGTH_128, 4);
-    pen::put(out, 4, &fixed::LETTER_A, 1);
-    pen::put(out, 127, &fixed::EURO, 1);
+    pen::put(out, offsets::LENGTH, &fixed::LENGTH_128, 4);
+    pen::put(out, offsets::LETTER, &fixed::LETTER_A, 1);
+    pen::put(out, offsets::EURO_OF_A, &fixed::EURO, 1);
 }
 
 // What a C of k parts has of its own; the rest is blank.
@@ -33,11 +34,16 @@ fn own_of_c(k: usize, out: &mut [u8])
 {
     let parts = k as u64;
     pen::blank(out);
-    pen::put_number(out, 0, lengths::FIELDS + lengths::PART * parts, 4);
-    pen::put(out, 4, &fixed::LETTER_C, 1);
-    pen::put_number(out, 50, 0, 11);
-    pen::put(out, 182, &fixed::EURO, 1);
-    pen::put_number(out, 185, parts, 2);
+    pen::put_number(
+        out,
+        offsets::LENGTH,
+        lengths::FIELDS + lengths::PART * parts,
+        4,
+    );
+    pen::put(out, offsets::LETTER, &fixed::LETTER_C, 1);
+    pen::put_number(out, offsets::ZEROS_OF_C, 0, 11);
+    pen::put(out, offsets::EURO_OF_C, &fixed::EURO, 1);
+    pen::put_number(out, offsets::PARTS, parts, 2);
 }
 
 // The n fields of a line of A, or of a C of k parts, each where it stands in the record.
@@ -65,7 +71,7 @@ pub(crate) fn lay_header(x: &[u8], out: &mut [u8])
     ensures { λ _. ⌜ now (out .exit) ≡ lay recordA (behindLetter (split tab (now (x .entry)))) ⌝ }
 {
     own_of_a(out);
-    put_fields(true, 0, 8, x, out);
+    put_fields(true, 0, pen::FIELDS_OF_A, x, out);
 }
 
 // The record C of a line x that tells k parts.
@@ -74,7 +80,7 @@ pub(crate) fn lay_payment(k: usize, x: &[u8], out: &mut [u8])
     ensures { λ _. ⌜ now (out .exit) ≡ lay (recordC k) (behindLetter (split tab (now (x .entry)))) ⌝ }
 {
     own_of_c(k, out);
-    put_fields(false, k, 12 + 2 * k, x, out);
+    put_fields(false, k, pen::FIELDS_OF_C + 2 * k, x, out);
 }
 
 // E after so many payments that come to these sums.
@@ -86,11 +92,11 @@ pub(crate) fn put_end(count: u64, sums: Sums, out: &mut [u8])
     let banks = sums.banks;
     let cents = sums.cents;
     pen::blank(out);
-    pen::put(out, 0, &fixed::LENGTH_128, 4);
-    pen::put(out, 4, &fixed::LETTER_E, 1);
-    pen::put_number(out, 10, count, 7);
-    pen::put_number(out, 17, 0, 13);
-    pen::put_number(out, 30, accounts.0, 17);
-    pen::put_number(out, 47, banks.0, 17);
-    pen::put_number(out, 64, cents.0, 13);
+    pen::put(out, offsets::LENGTH, &fixed::LENGTH_128, 4);
+    pen::put(out, offsets::LETTER, &fixed::LETTER_E, 1);
+    pen::put_number(out, offsets::COUNT, count, 7);
+    pen::put_number(out, offsets::ZEROS_OF_E, 0, 13);
+    pen::put_number(out, offsets::ACCOUNTS, accounts.0, 17);
+    pen::put_number(out, offsets::BANK_CODES, banks.0, 17);
+    pen::put_number(out, offsets::CENTS, cents.0, 13);
 }

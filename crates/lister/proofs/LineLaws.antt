@@ -15,8 +15,8 @@ use Rattle.listing.specs.Lines.{tab, lineEnd, behindTabs, trim}
 use Rattle.listing.specs.Records.{Cell, cut}
 use Rattle.listing.proofs.LineLaws.{length-trim}
 use Rattle.pen.specs.declared.Cell.{Cell as CodeCell}
-use Rattle.pen.specs.Walking.{cellsOf, cellOf, cellAt}
-use Rattle.lister.specs.Printing.{letterOf, lineAt, Lies}
+use Rattle.pen.specs.Walking.{letterOf, cellsOf, cellOf, cellAt}
+use Rattle.lister.specs.Printing.{lineAt, Lies}
 
 -- the fields in these cells of the record at p, each behind a tab
 abbrev pub tabbed : List ℕ → ℕ → List Cell → List ℕ

@@ -13,9 +13,9 @@ use Rattle.listing.specs.Records.{Cell, pad}
 use Rattle.listing.proofs.LineLaws.{length-trim, trim-take, pad-whole}
 use Rattle.pen.specs.declared.Cell.{Cell as CodeCell}
 use Rattle.pen.specs.Writing.{over, overIfRoom}
-use Rattle.pen.specs.Walking.{cellsOf}
+use Rattle.pen.specs.Walking.{letterOf, cellsOf}
 use Rattle.pen.proofs.OverLaws.{over-room, over-length, over-nothing, over-next, over-more}
-use Rattle.lister.specs.Printing.{letterOf, lineAt}
+use Rattle.lister.specs.Printing.{lineAt}
 use Rattle.lister.proofs.LineLaws.{tabbed, Lying, printed, tabbed-more, tabbed-fewer, line-long, part-is}
 
 module _ {f : List ℕ} {p : ℕ} {cs : List Cell} {i : ℕ} {c : CodeCell} (l : Lying f p cs i c) {w : ℕ} (e : w ≡ length (printed l)) where

@@ -1,20 +1,15 @@
 -- Lines as they are printed out of a file: field by field, from where it stands in its record.
 use Prim.Native.Nat.{ℕ, _+_, _≤_}
 use mathlib.Core.Path.{_≡_}
-use mathlib.Core.Bool.{Bool, true, false}
+use mathlib.Core.Bool.{Bool}
 use mathlib.Core.List.{List}
 use lib.ListN.{length, take}
 use lib.Dec.{T, leb}
 use Rattle.form.specs.Kind.{every, width}
-use Rattle.rules.specs.Signs.{ascii}
 use Rattle.rules.specs.Answer.{answer, outcome}
 use Rattle.listing.specs.Lines.{line}
 use Rattle.listing.specs.Records.{Cell, cut}
-use Rattle.pen.specs.Walking.{cellsOf}
-
-abbrev pub letterOf : Bool → List ℕ
-letterOf true = ascii "A"
-letterOf false = ascii "C"
+use Rattle.pen.specs.Walking.{letterOf, cellsOf}
 
 -- the line, of n fields behind its letter, of the record that begins at p
 abbrev pub lineAt : Bool → ℕ → List ℕ → ℕ → List ℕ

@@ -7,10 +7,9 @@ ghost use Rattle.form.specs.Kind.{every, digit};
 ghost use Rattle.form.specs.Reader.{number};
 ghost use Rattle.rules.specs.Answer.{answer, filled};
 ghost use Rattle.listing.specs.Lines.{trim};
-ghost use Rattle.listing.specs.Endings.{refuses, listed, within, bytesOf};
+ghost use Rattle.listing.specs.Endings.{listed, within, bytesOf};
 ghost use Rattle.pen.specs.Writing.{over, writtenOf};
 ghost use Rattle.lister.specs.Printing.{lineAt, Lies, Accepted};
-use fields::fixed;
 use fields::numbers;
 use pen::Written;
 
@@ -52,11 +51,7 @@ fn print_line(head: bool, n: usize, s: &[u8], p: usize, out: &mut [u8], q: usize
     ensures place { λ r. ⌜ r ≡ q + length (lineAt head n (now (s .entry)) p) ⌝ }
     ensures out { λ _. ⌜ now (out .exit) ≡ over q (lineAt head n (now (s .entry)) p) (now (out .entry)) ⌝ }
 {
-    let mut letter = fixed::LETTER_C[0];
-    if head {
-        letter = fixed::LETTER_A[0];
-    }
-    out[q] = letter;
+    out[q] = pen::letter(head);
     let mut at = q + 1;
     let mut i = 0;
     while i < n {
@@ -87,12 +82,12 @@ fn listing_length(s: &[u8], n: usize) -> usize
     requires { ⌜ Accepted n (now s) ⌝ }
     ensures { λ r. ⌜ r ≡ length (bytesOf (listed (answer (now (s .entry))))) ⌝ }
 {
-    let mut length = line_length(true, offsets::FIELDS_OF_A, s, 0);
+    let mut length = line_length(true, pen::FIELDS_OF_A, s, 0);
     let mut p = offsets::FIRST_PAYMENT;
     let mut row = 0;
     while row < n {
         let k = parts_at(s, p);
-        length += line_length(false, offsets::FIELDS_OF_C + 2 * k, s, p);
+        length += line_length(false, pen::FIELDS_OF_C + 2 * k, s, p);
         p += pen::bytes_of(k);
         row += 1;
     }
@@ -104,25 +99,14 @@ fn print_listing(s: &[u8], n: usize, out: &mut [u8])
     requires { ⌜ Accepted n (now s) × (length (bytesOf (listed (answer (now s)))) ≤ length (now out)) ⌝ }
     ensures { λ _. ⌜ now (out .exit) ≡ filled (bytesOf (listed (answer (now (s .entry))))) (now (out .entry)) ⌝ }
 {
-    let mut q = print_line(true, offsets::FIELDS_OF_A, s, 0, out, 0);
+    let mut q = print_line(true, pen::FIELDS_OF_A, s, 0, out, 0);
     let mut p = offsets::FIRST_PAYMENT;
     let mut row = 0;
     while row < n {
         let k = parts_at(s, p);
-        q = print_line(false, offsets::FIELDS_OF_C + 2 * k, s, p, out, q);
+        q = print_line(false, pen::FIELDS_OF_C + 2 * k, s, p, out, q);
         p += pen::bytes_of(k);
         row += 1;
-    }
-}
-
-// What a refused call gives back: it has written nothing.
-fn refused(number: u8, place: usize) -> Written
-    ensures { λ r. ⌜ r ≡ writtenOf (refuses number place) ⌝ }
-{
-    Written {
-        number: number,
-        place: place,
-        length: 0,
     }
 }
 
@@ -133,12 +117,12 @@ pub fn list(s: &[u8], out: &mut [u8]) -> Written
 {
     let checked = checker::check(s);
     if checked.number != 0 {
-        return refused(checked.number, checked.place);
+        return pen::refused(checked.number, checked.place);
     }
     let n = checked.count as usize;
     let length = listing_length(s, n);
     if out.len() < length {
-        return refused(numbers::NO_ROOM, 0);
+        return pen::refused(numbers::NO_ROOM, 0);
     }
     print_listing(s, n, out);
     Written {

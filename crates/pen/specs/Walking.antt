@@ -6,6 +6,7 @@ use mathlib.Core.Option.{Option, none, some}
 use lib.ListN.{getElem?}
 use lib.Dec.{eqb}
 use Rattle.form.specs.Kind.{Kind, fixed, digits, maybe, text, choice, width}
+use Rattle.rules.specs.Signs.{ascii}
 use Rattle.listing.specs.Records.{Piece, recordA, recordC, Cell, cells}
 use Rattle.pen.specs.declared.Cell.{Cell as CodeCell}
 
@@ -13,6 +14,11 @@ use Rattle.pen.specs.declared.Cell.{Cell as CodeCell}
 unfoldable pub reach : ℕ → List ℕ → ℕ
 reach z [] = 0
 reach z (b ∷ bs) = let r = reach z bs in cond (eqb b z) 0 (suc r)
+
+-- the letter of A, or of C
+abbrev pub letterOf : Bool → List ℕ
+letterOf true = ascii "A"
+letterOf false = ascii "C"
 
 -- the record A, or C with k parts
 abbrev pub recordOf : Bool → ℕ → List Piece

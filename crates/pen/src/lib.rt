@@ -3,12 +3,15 @@
 ghost use mathlib.Core.Path.{_≡_};
 ghost use Prim.Native.Nat.{_+_, _*_, _%_, _^_, _≤_, min};
 ghost use mathlib.Core.Bool.{true, false};
+ghost use mathlib.Core.List.{[], _∷_};
 ghost use lib.ListN.{length, drop};
 ghost use Rattle.form.specs.Kind.{numeral, blanks};
 ghost use Rattle.rules.specs.Writing.{section};
 ghost use Rattle.listing.specs.Records.{pad};
-ghost use Rattle.pen.specs.Writing.{overIfRoom};
-ghost use Rattle.pen.specs.Walking.{reach, cellAt};
+ghost use Rattle.listing.specs.Endings.{refuses};
+ghost use Rattle.pen.specs.Writing.{overIfRoom, writtenOf};
+ghost use Rattle.pen.specs.Walking.{reach, letterOf, cellAt};
+use fields::fixed;
 
 mod places;
 
@@ -17,11 +20,27 @@ pub const TAB: u8 = b'\t';
 
 pub const LINE_END: u8 = b'\n';
 
+// How many fields the lines have behind their letter: that of A, and those that the line of every C has.
+pub const FIELDS_OF_A: usize = 8;
+
+pub const FIELDS_OF_C: usize = 12;
+
 // What a call that writes gives back: number and place, and how many bytes it wrote. With 0 the place is 0, with any other number the rest is.
 pub struct Written {
     pub number: u8,
     pub place: usize,
     pub length: usize,
+}
+
+// What a refused call gives back: it has written nothing.
+pub fn refused(number: u8, place: usize) -> Written
+    ensures { λ r. ⌜ r ≡ writtenOf (refuses number place) ⌝ }
+{
+    Written {
+        number: number,
+        place: place,
+        length: 0,
+    }
 }
 
 // A field of a line: where it stands in its record and how wide; whether it is a text, which may be shorter in the line, and whether it may be
@@ -53,6 +72,16 @@ pub fn reach(s: &[u8], p: usize, z: u8) -> usize
         i += 1;
     }
     i
+}
+
+// The letter of A, or of C.
+pub fn letter(head: bool) -> u8
+    ensures { λ r. ⌜ letterOf head ≡ r ∷ [] ⌝ }
+{
+    if head {
+        return fixed::LETTER_A[0];
+    }
+    fixed::LETTER_C[0]
 }
 
 // Field i of the line of A, from 0 behind the letter.

@@ -1,11 +1,7 @@
 -- composer::compose meets its contract: the listing is read, then the room tested, then the file written.
 -- Assumes nothing.
 use native.Mathlib.Omega.{arith}
-use mathlib.Core.Path.{ap, _∙_}
 use borrow.Author.Needs.{needs}
-use Rattle.fields.specs.declared.Refusal.{Refusal}
-use Rattle.listing.specs.Endings.{refuses}
-use Rattle.pen.specs.Writing.{writtenOf}
 use Rattle.composer.proofs.CallLaws.{call-refused, call-told, call-short, call-ready, call-written}
 use Rattle.composer.proofs.compose.Statement.{statement}
 use Rattle.composer.proofs.compose.Tie as tie
@@ -39,19 +35,14 @@ add-length c =
     let s = t .small in
     omega arith
 
-refuse-requires : tie.Need-refuse-requires
-refuse-requires c κs = search needs
-
 refused-requires-2 : tie.Need-refused-requires-2
 refused-requires-2 c κs = search needs
 
 returns-2 : tie.Need-returns-2
 returns-2 c =
-    let at-read-listing = c .before .before .before .before .before .before in
-    let at-read = c .before .before .before .before in
-    let at-if1 = c .before .before in
-    call-short _ _ (at-read-listing .read-listing .ensures) (at-read .read .given .1) (at-if1 .if1 .taken)
-    (c .refused2 .ensures ∙ ap (λ (w : Refusal). writtenOf (refuses (w .number) (w .place))) (c .before .refuse .ensures))
+    let at-read-listing = c .before .before .before .before .before in
+    let at-read = c .before .before .before in
+    call-short _ _ (at-read-listing .read-listing .ensures) (at-read .read .given .1) (c .before .if1 .taken) (c .refused2 .ensures)
 
 write-file-requires : tie.Need-write-file-requires
 write-file-requires c κs =
@@ -82,7 +73,6 @@ compose-spec =
     refused-requires
     returns
     add-length
-    refuse-requires
     refused-requires-2
     returns-2
     write-file-requires

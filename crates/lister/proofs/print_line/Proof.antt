@@ -2,23 +2,20 @@
 -- Assumes nothing.
 use Prim.Native.Nat.{_+_, _-_, _≤_, _<_}
 use native.Mathlib.Omega.{arith}
-use mathlib.Core.Path.{_≡_, sym, ap, _∙_}
-use mathlib.Core.Logic.{⊎-elim}
-use mathlib.Core.List.{[], _∷_}
+use mathlib.Core.Path.{_≡_, sym, _∙_}
 use lib.ListN.{length, length-set}
 use borrow.Author.Needs.{needs}
 use Rattle.pen.specs.Walking.{cellsOf}
-use Rattle.lister.specs.Printing.{letterOf}
 use Rattle.lister.proofs.LineLaws.{Lying, lying, width-is, line-long}
 use Rattle.lister.proofs.PrintLaws.{printed-narrow, Printing, field-room, print-more, Ended, line-start, line-ends}
 use Rattle.lister.proofs.print_line.Statement.{statement}
 use Rattle.lister.proofs.print_line.Tie as tie
 
 abbrev Inv-loop : tie.InvT-loop
-Inv-loop head n s p out₀ q letter at₀ i₀ out at i = Printing s p (cellsOf head) n out₀ at₀ out at i
+Inv-loop head n s p out₀ q at₀ i₀ out at i = Printing s p (cellsOf head) n out₀ at₀ out at i
 
 abbrev μ-loop : tie.MeasureT-loop
-μ-loop head n s p out₀ q letter at₀ i₀ out at i = n - i
+μ-loop head n s p out₀ q at₀ i₀ out at i = n - i
 
 abbrev Found : Type 0
 Found = tie.After-cell-at Inv-loop μ-loop
@@ -29,7 +26,7 @@ Trimmed = tie.After-trimmed Inv-loop μ-loop
 abbrev turn : Trimmed → Found
 turn c = c .before .before .before .before
 
-abbrev begun : tie.Joined1 Inv-loop μ-loop → tie.Start Inv-loop μ-loop
+abbrev begun : tie.After-letter Inv-loop μ-loop → tie.Start Inv-loop μ-loop
 begun c = c .before .before .before
 
 -- the cell of field i
@@ -41,7 +38,7 @@ here c =
 
 -- the output is as long as it was
 kept : (l : tie.At-loop Inv-loop μ-loop) → length (l .loop .out) ≡ length (begun (l .before) .args .out .now)
-kept l = l .loop .inv .long ∙ length-set (begun (l .before) .args .out .now) (begun (l .before) .args .q) (l .before .if1 .letter)
+kept l = l .loop .inv .long ∙ length-set (begun (l .before) .args .out .now) (begun (l .before) .args .q) (l .before .letter .result)
 
 -- it has room for the field
 room : (c : Trimmed) → let l = turn c .before .before in l .loop .at + (1 + c .trimmed .result) < length (begun (l .before) .args .out .now)
@@ -54,26 +51,17 @@ room c =
 narrow : (c : Trimmed) → c .trimmed .result ≤ turn c .cell-at .result .width
 narrow c = printed-narrow (here (turn c)) (width-is (here (turn c)) (c .trimmed .ensures))
 
--- the letter is that of the record
-letter-is : (c : tie.Joined1 Inv-loop μ-loop) → c .if1 .letter ∷ [] ≡ letterOf (begun c .args .head)
-letter-is c =
-    ⊎-elim (λ u. ap (λ b. b ∷ []) (u .1) ∙ ap letterOf (sym (u .0 .taken)))
-    (λ u. ap (λ b. b ∷ []) (u .1) ∙ ap letterOf (sym (u .0 .left))) (c .if1 .came)
-
 -- behind the last field there is room for the line's end
 ended : (c : tie.After-loop Inv-loop μ-loop) → let l = c .before in let a = begun (l .before) .args in
     Ended (a .head) (a .n) (a .s .now) (a .p) (a .out .now) (a .q) (l .loop .out) (l .loop .at)
 ended c =
     let j = c .before .before in
     let a = begun j .args in
-    line-ends (a .head) (a .n) (a .s .now) (a .p) (a .out .now) (a .q) (begun j .pre .1) (j .if1 .letter)
-    (c .before .loop .inv) (c .loop-test .left) (letter-is j)
+    line-ends (a .head) (a .n) (a .s .now) (a .p) (a .out .now) (a .q) (begun j .pre .1) (j .letter .result)
+    (c .before .loop .inv) (c .loop-test .left) (sym (j .letter .ensures))
 
-array-read-letter : tie.Need-array-read-letter Inv-loop μ-loop
-array-read-letter c = search needs
-
-array-read-letter-2 : tie.Need-array-read-letter-2 Inv-loop μ-loop
-array-read-letter-2 c = search needs
+letter-requires : tie.Need-letter-requires Inv-loop μ-loop
+letter-requires c κs = search needs
 
 slice-write-out : tie.Need-slice-write-out Inv-loop μ-loop
 slice-write-out c = let a = begun c .args in omega (arith, line-long (a .head) (a .n) (a .s .now) (a .p))
@@ -82,7 +70,7 @@ add-at : tie.Need-add-at Inv-loop μ-loop
 add-at c = let a = begun c .args in omega (arith, line-long (a .head) (a .n) (a .s .now) (a .p))
 
 loop-holds : tie.Need-loop-holds Inv-loop μ-loop
-loop-holds c = let a = begun c .args in line-start (a .head) (a .n) (a .s .now) (a .p) (a .out .now) (a .q) (begun c .pre .1) (c .if1 .letter)
+loop-holds c = let a = begun c .args in line-start (a .head) (a .n) (a .s .now) (a .p) (a .out .now) (a .q) (begun c .pre .1) (c .letter .result)
 
 cell-at-requires : tie.Need-cell-at-requires Inv-loop μ-loop
 cell-at-requires c κs = search needs
@@ -163,8 +151,7 @@ print-line-spec =
     (tie.spec
     Inv-loop
     μ-loop
-    array-read-letter
-    array-read-letter-2
+    letter-requires
     slice-write-out
     add-at
     loop-holds
