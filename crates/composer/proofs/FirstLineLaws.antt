@@ -6,7 +6,6 @@ use native.Mathlib.Omega.{arith}
 use native.Mathlib.Nat.{zero-add}
 use mathlib.Core.Path.{_≡_, refl, sym, ap, ap₂, _∙_, subst}
 use mathlib.Core.Logic.{_≢_}
-use mathlib.Core.Bool.{false}
 use mathlib.Core.List.{List, [], _∷_}
 use lib.ListN.{length, take, drop}
 use lib.Seq.{length-take-le}
@@ -32,6 +31,7 @@ use Rattle.pen.proofs.ReachLaws.{reach-le, split-more, split-last}
 use Rattle.composer.specs.declared.LinesRead.{LinesRead}
 use Rattle.composer.specs.declared.LinesRead.the-variants as lines
 use Rattle.composer.specs.Telling.{headTold, paymentsTold, listingTold}
+use Rattle.composer.proofs.StepLaws.{not-empty}
 use Rattle.composer.proofs.ReadingLaws.{owed}
 
 told-of : (h : Header) (c : Composed (List Payment)) → listingTold (andThen c (λ ps. made (record { header = h; payments = ps }))) ≡ paymentsTold noTotals 0 c
@@ -57,11 +57,7 @@ module _ (l : List ℕ) (e : ℕ) (ends : e ≡ 0 + reach lineEnd l) where
 
     pub listing-cut : e ≢ 0 → {r : Refusal} → r ≡ refusalOf 17 0 → lines.Refused r ≡ listingTold (compose l)
     unfolding compose composeLines
-    listing-cut n w = ap lines.Refused w ∙ sym (ap (λ xs. listingTold (composeLines xs)) one-piece ∙ rw (filled l (omega (arith, n))))
-      where
-        filled : (x : List ℕ) → 0 < length x → empty x ≡ false
-        filled [] g = absurd (omega arith)
-        filled (b ∷ bs) g = refl
+    listing-cut n w = ap lines.Refused w ∙ sym (ap (λ xs. listingTold (composeLines xs)) one-piece ∙ rw (not-empty l (omega (arith, n))))
 
     no-document : (d : Document) → compose l ≡ made d → ⊥
     unfolding compose composeLines

@@ -5,7 +5,6 @@ use native.Mathlib.Omega.{arith}
 use native.Mathlib.Nat.{add-assoc, add-zero}
 use mathlib.Core.Path.{_≡_, refl, sym, ap, ap₂, _∙_, subst}
 use mathlib.Core.Logic.{_≢_}
-use mathlib.Core.Bool.{false}
 use mathlib.Core.List.{List, [], _∷_}
 use lib.ListN.{length, drop, length-append, length-drop, drop-of-length-le}
 use lib.Dec.{leb}
@@ -26,7 +25,7 @@ use Rattle.payment.specs.declared.PaymentRead.the-variants as payment
 use Rattle.payment.specs.Adding.{withPayment, paymentWhy}
 use Rattle.checker.specs.Checking.{sumsOf}
 use Rattle.checker.proofs.Laws.{together-nothing, together-more}
-use Rattle.listing.specs.Lines.{tab, lineEnd, split, empty}
+use Rattle.listing.specs.Lines.{tab, lineEnd, split}
 use Rattle.listing.specs.Composing.{Composed, made, denied, andThen, provided, composePayment, composePayments}
 use Rattle.listing.proofs.PaymentLaws.{payment-heard}
 use Rattle.pen.specs.Walking.{reach}
@@ -34,7 +33,7 @@ use Rattle.composer.specs.declared.LinesRead.{LinesRead}
 use Rattle.composer.specs.declared.LinesRead.the-variants as lines
 use Rattle.composer.specs.Telling.{paymentTold, paymentsTold}
 use Rattle.composer.proofs.ToldLaws.{longest, min-is}
-use Rattle.composer.proofs.StepLaws.{lineTo, last-piece, line-within, onward, step}
+use Rattle.composer.proofs.StepLaws.{not-empty, lineTo, last-piece, line-within, onward, step}
 
 -- what is owed of the lines from p on, after payments that come to t and take so many bytes
 abbrev pub owed : List ℕ → List ℕ → Totals → ℕ → ℕ → LinesRead
@@ -136,11 +135,7 @@ module _ {l : List ℕ} {kind : FileKind} {start count : ℕ} {sums : Sums} {siz
     -- bytes follow the last line
     pub reading-cut : p < length l → {r : Refusal} → r ≡ refusalOf 17 p → lines.Refused r ≡ owed l (lettersOf kind) noTotals 0 start
     unfolding composePayments
-    reading-cut h w = ap lines.Refused w ∙ sym (reading .rest ∙ ap (λ xs. paymentsTold t size (composePayments (lettersOf kind) t p xs)) one-piece ∙ rw (filled (drop p l) (omega (arith, length-drop p l))))
-      where
-        filled : (x : List ℕ) → 0 < length x → empty x ≡ false
-        filled [] g = absurd (omega arith)
-        filled (b ∷ bs) g = refl
+    reading-cut h w = ap lines.Refused w ∙ sym (reading .rest ∙ ap (λ xs. paymentsTold t size (composePayments (lettersOf kind) t p xs)) one-piece ∙ rw (not-empty (drop p l) (omega (arith, length-drop p l))))
 
     module _ (h : length l ≤ p) where
       at-end : composePayments (lettersOf kind) t p (split lineEnd (drop p l)) ≡ provided (leb 1 count) 18 p (made [])

@@ -2,18 +2,23 @@
 -- Assumes nothing.
 use Prim.Native.Nat.{ℕ, suc, _+_, _-_, _^_, _≤_, _<_}
 use native.Mathlib.Omega.{arith}
-use mathlib.Core.Path.{_≡_, ap, ap₂, _∙_}
+use mathlib.Core.Path.{_≡_, refl, ap, ap₂, _∙_}
 use mathlib.Core.Logic.{_≢_}
+use mathlib.Core.Bool.{false}
 use mathlib.Core.List.{List, [], _∷_}
 use lib.ListN.{length, take, drop, length-drop}
 use lib.Seq.{length-take-le, take-all}
 use Rattle.rules.specs.Values.{Payment, Totals, adding}
-use Rattle.listing.specs.Lines.{tab, lineEnd, split}
+use Rattle.listing.specs.Lines.{tab, lineEnd, split, empty}
 use Rattle.listing.specs.Composing.{Composed, made, andThen, composePayment, composePayments}
 use Rattle.listing.proofs.LineLaws.{split-some}
 use Rattle.listing.proofs.LinesLaws.{payments-step}
 use Rattle.pen.specs.Walking.{reach}
 use Rattle.pen.proofs.ReachLaws.{reach-le, pieces-more, pieces-last}
+
+pub not-empty : (x : List ℕ) → 0 < length x → empty x ≡ false
+not-empty [] h = absurd (omega arith)
+not-empty (b ∷ bs) h = refl
 
 -- the line that stands at p, and ends at e
 abbrev pub lineTo : List ℕ → ℕ → ℕ → List ℕ

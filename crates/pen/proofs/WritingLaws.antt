@@ -5,7 +5,7 @@ use native.Mathlib.Numerals.{add-one}
 use native.Mathlib.Omega.{arith}
 use mathlib.Core.Path.{_≡_, refl, sym, _∙_}
 use mathlib.Core.List.{List, _++_}
-use lib.ListN.{length, take, getD, set, length-append, length-replicate, getD-replicate, length-set, List·getD-append}
+use lib.ListN.{length, take, getD, set, getD-replicate, length-set, List·getD-append}
 use lib.Seq.{take-suc, take-all, getD-take, getD-append-add, length-take-le}
 use Rattle.form.specs.Kind.{blanks}
 use Rattle.listing.specs.Records.{pad}
@@ -43,9 +43,6 @@ writing-end {bytes = bytes} {i = i} w h = w .holds ∙ rw (take-all i bytes h)
 -- ---- a field made w wide
 
 module _ (w : ℕ) (t : List ℕ) where
-  pub length-pad : length (pad w t) ≡ w
-  length-pad = length-take-le w (t ++ blanks w) (omega (arith, length-append t (blanks w), length-replicate {A = ℕ} w 32))
-
   pub pad-text : (i : ℕ) → i < w → i < length t → getD (pad w t) i 0 ≡ getD t i 0
   pad-text i h l = getD-take w (t ++ blanks w) i 0 h ∙ List·getD-append t (blanks w) 0 i l
 

@@ -6,8 +6,9 @@ use mathlib.Core.Path.{_≡_, refl, sym, _∙_}
 use mathlib.Core.Logic.{⊎-elim}
 use lib.ListN.{length, getD}
 use Rattle.listing.specs.Records.{pad}
+use Rattle.listing.proofs.LineLaws.{pad-length}
 use Rattle.pen.proofs.OverLaws.{has-room, no-room, over-room}
-use Rattle.pen.proofs.WritingLaws.{Writing, writing-start, writing-more, writing-end, length-pad, pad-text, pad-blank}
+use Rattle.pen.proofs.WritingLaws.{Writing, writing-start, writing-more, writing-end, pad-text, pad-blank}
 use Rattle.pen.proofs.put.Statement.{statement}
 use Rattle.pen.proofs.put.Tie as tie
 
@@ -23,12 +24,12 @@ whole-requires c κs = tt
 returns : tie.Need-returns Inv-loop μ-loop
 returns c =
     let a = c .before .before .before .before .args in
-    sym (no-room (a .p) (a .w) (pad (a .w) (a .t .now)) (a .out .now) (length-pad (a .w) (a .t .now)) (c .before .whole .ensures) (c .if1 .taken))
+    sym (no-room (a .p) (a .w) (pad (a .w) (a .t .now)) (a .out .now) (pad-length (a .w) (a .t .now)) (c .before .whole .ensures) (c .if1 .taken))
 
 loop-holds : tie.Need-loop-holds Inv-loop μ-loop
 loop-holds c =
     let a = c .before .before .before .before .args in
-    let l = length-pad (a .w) (a .t .now) in
+    let l = pad-length (a .w) (a .t .now) in
     let r = has-room (a .p) (a .w) (length (a .out .now)) (c .before .whole .ensures) (c .if1 .left) in
     writing-start (a .out .now) (a .p) (pad (a .w) (a .t .now)) (omega arith)
 
@@ -41,7 +42,7 @@ add-out c = omega arith
 slice-write-out : tie.Need-slice-write-out Inv-loop μ-loop
 slice-write-out c =
     let a = c .before .before .before .before .before .before .before .args in
-    omega (arith, length-pad (a .w) (a .t .now))
+    omega (arith, pad-length (a .w) (a .t .now))
 
 add-i : tie.Need-add-i Inv-loop μ-loop
 add-i c = omega arith
@@ -53,7 +54,7 @@ loop-again : tie.Need-loop-again Inv-loop μ-loop
 loop-again c =
     let a = c .before .before .before .before .before .before .before .args in
     let s = c .before .before .loop in
-    let l = length-pad (a .w) (a .t .now) in
+    let l = pad-length (a .w) (a .t .now) in
     let b : c .if2 .b ≡ getD (pad (a .w) (a .t .now)) (s .i) 0
     = ⊎-elim (λ u. u .2 ∙ sym (pad-text (a .w) (a .t .now) (s .i) (omega arith) (omega arith)))
     (λ u. u .1 ∙ sym (pad-blank (a .w) (a .t .now) (s .i) (omega arith) (omega arith))) (c .if2 .came) in
@@ -65,7 +66,7 @@ same-length c = c .before .loop .inv .long
 returns-2 : tie.Need-returns-2 Inv-loop μ-loop
 returns-2 c =
     let a = c .before .before .before .before .before .before .args in
-    let l = length-pad (a .w) (a .t .now) in
+    let l = pad-length (a .w) (a .t .now) in
     writing-end (c .before .loop .inv) (omega arith) ∙ sym (over-room (a .p) (pad (a .w) (a .t .now)) (a .out .now) (c .before .loop .inv .room))
 
 pub put-spec : {M : Type 1} → statement M
