@@ -30,6 +30,11 @@ mod line;
 mod offsets;
 mod record;
 
+// The bytes of E, and of A and E together.
+const LENGTH_OF_E: usize = 128;
+
+const A_AND_E: usize = 256;
+
 // What the payments of a listing come to, and how many bytes they take in the file.
 enum LinesRead {
     Refused(Refusal),
@@ -194,7 +199,7 @@ fn write_payments(l: &[u8], start: usize, count: u64, out: &mut [u8]) -> usize
     ensures out { λ _. ⌜ now (out .exit) ≡ over 128 (writePayments (paymentsOf (compose (now (l .entry))))) (now (out .entry)) ⌝ }
 {
     let mut p = start;
-    let mut at = 128;
+    let mut at = pen::FIRST_PAYMENT;
     let mut row = 0;
     while row < count {
         let e = pen::reach(l, p, pen::LINE_END);
@@ -211,9 +216,9 @@ fn write_file(l: &[u8], count: u64, sums: Sums, out: &mut [u8])
     ensures { λ _. ⌜ now (out .exit) ≡ filled (bytesOf (composed (compose (now (l .entry))))) (now (out .entry)) ⌝ }
 {
     let e = pen::reach(l, 0, pen::LINE_END);
-    record::lay_header(&l[..e], &mut out[..128]);
+    record::lay_header(&l[..e], &mut out[..pen::FIRST_PAYMENT]);
     let end = write_payments(l, e + 1, count, out);
-    record::put_end(count, sums, &mut out[end..end + 128]);
+    record::put_end(count, sums, &mut out[end..end + LENGTH_OF_E]);
 }
 
 // Composes the file of a listing. What a refused call is lent it leaves as it was.
@@ -226,7 +231,7 @@ pub fn compose(l: &[u8], out: &mut [u8]) -> Written
         let why = read.why();
         return pen::refused(why.number, why.place);
     };
-    let length = 256 + size;
+    let length = A_AND_E + size;
     if out.len() < length {
         return pen::refused(numbers::NO_ROOM, 0);
     }

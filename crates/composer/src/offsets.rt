@@ -8,12 +8,10 @@ pub const LETTER: usize = 4;
 // Of A: that the file is in euro, A12.
 pub const EURO_OF_A: usize = 127;
 
-// Of C: the zeros, C9; that the file is in euro, C17a; the number of parts, C18.
+// Of C: the zeros, C9; that the file is in euro, C17a.
 pub const ZEROS_OF_C: usize = 50;
 
 pub const EURO_OF_C: usize = 182;
-
-pub const PARTS: usize = 185;
 
 // Of E: the number of payments, E4; the zeros, E5; the three sums, E6 to E8.
 pub const COUNT: usize = 10;

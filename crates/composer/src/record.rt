@@ -43,7 +43,7 @@ fn own_of_c(k: usize, out: &mut [u8])
     pen::put(out, offsets::LETTER, &fixed::LETTER_C, 1);
     pen::put_number(out, offsets::ZEROS_OF_C, 0, 11);
     pen::put(out, offsets::EURO_OF_C, &fixed::EURO, 1);
-    pen::put_number(out, offsets::PARTS, parts, 2);
+    pen::put_number(out, pen::PARTS, parts, 2);
 }
 
 // The n fields of a line of A, or of a C of k parts, each where it stands in the record.

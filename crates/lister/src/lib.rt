@@ -13,8 +13,6 @@ ghost use Rattle.lister.specs.Printing.{lineAt, Lies, Accepted};
 use fields::numbers;
 use pen::Written;
 
-mod offsets;
-
 // How many bytes of t there are without its trailing blanks.
 fn trimmed(t: &[u8]) -> usize
     ensures { λ r. ⌜ r ≡ length (trim (now (t .entry))) ⌝ }
@@ -72,8 +70,8 @@ fn parts_at(s: &[u8], p: usize) -> usize
     requires { ⌜ (p + 187 ≤ length (now s)) × T (every digit (take 2 (drop (p + 185) (now s)))) ⌝ }
     ensures { λ r. ⌜ r ≡ number (take 2 (drop (p + 185) (now (s .entry)))) ⌝ }
 {
-    let tens = s[p + offsets::PARTS] as usize - b'0' as usize;
-    let ones = s[p + offsets::PARTS + 1] as usize - b'0' as usize;
+    let tens = s[p + pen::PARTS] as usize - b'0' as usize;
+    let ones = s[p + pen::PARTS + 1] as usize - b'0' as usize;
     tens * 10 + ones
 }
 
@@ -83,7 +81,7 @@ fn listing_length(s: &[u8], n: usize) -> usize
     ensures { λ r. ⌜ r ≡ length (bytesOf (listed (answer (now (s .entry))))) ⌝ }
 {
     let mut length = line_length(true, pen::FIELDS_OF_A, s, 0);
-    let mut p = offsets::FIRST_PAYMENT;
+    let mut p = pen::FIRST_PAYMENT;
     let mut row = 0;
     while row < n {
         let k = parts_at(s, p);
@@ -100,7 +98,7 @@ fn print_listing(s: &[u8], n: usize, out: &mut [u8])
     ensures { λ _. ⌜ now (out .exit) ≡ filled (bytesOf (listed (answer (now (s .entry))))) (now (out .entry)) ⌝ }
 {
     let mut q = print_line(true, pen::FIELDS_OF_A, s, 0, out, 0);
-    let mut p = offsets::FIRST_PAYMENT;
+    let mut p = pen::FIRST_PAYMENT;
     let mut row = 0;
     while row < n {
         let k = parts_at(s, p);

@@ -83,6 +83,3 @@ cut-laid f p ps ts rest h e = let z : p + 0 ≡ p = omega arith in cut-from f p 
 pub lay-begins : (ps : List Piece) (ts us : List (List ℕ)) (rest : List ℕ) → T (formed (cells 0 ps) ts) → T (formed (cells 0 ps) us)
     → lay ps ts ≡ lay ps us ++ rest → ts ≡ us
 lay-begins ps ts us rest h k e = sym (cut-laid (lay ps ts) 0 ps ts [] h (sym (append-nil (lay ps ts)))) ∙ cut-laid (lay ps ts) 0 ps us rest k e
-
-pub lay-one : (ps : List Piece) (ts us : List (List ℕ)) → T (formed (cells 0 ps) ts) → T (formed (cells 0 ps) us) → lay ps ts ≡ lay ps us → ts ≡ us
-lay-one ps ts us h k e = lay-begins ps ts us [] h k (e ∙ sym (append-nil (lay ps us)))

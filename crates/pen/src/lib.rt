@@ -25,6 +25,12 @@ pub const FIELDS_OF_A: usize = 8;
 
 pub const FIELDS_OF_C: usize = 12;
 
+// Where the first payment stands in a file: behind A.
+pub const FIRST_PAYMENT: usize = 128;
+
+// Where in a payment the number of its parts stands, C18.
+pub const PARTS: usize = 185;
+
 // What a call that writes gives back: number and place, and how many bytes it wrote. With 0 the place is 0, with any other number the rest is.
 pub struct Written {
     pub number: u8,
