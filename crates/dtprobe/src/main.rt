@@ -1,0 +1,77 @@
+// A program for tests: reads requests from standard input, makes each call of the library with just the slices that the request lends, and prints
+// the call's whole result and what every lent slice holds afterwards. docs/TESTING.md has the form of requests and answers.
+use libc::STDIN_FILENO;
+use libc::STDOUT_FILENO;
+
+mod answers;
+mod printing;
+mod requests;
+
+// Makes the call that the head line names, and answers whether the request was whole and within its limits.
+fn answer(head: &[u8; 37], input: &mut [u8], out: &mut [u8]) -> bool {
+    let call = head[0];
+    if call == b'C' {
+        return answers::check(head, input);
+    }
+    if call == b'L' {
+        return answers::load(head, input);
+    }
+    if call == b'P' {
+        return answers::write(head, false, input, out);
+    }
+    if call == b'M' {
+        return answers::write(head, true, input, out);
+    }
+    false
+}
+
+fn refuse_request() -> bool {
+    io::write_all(
+        STDOUT_FILENO,
+        &[
+            b'b',
+            b'a',
+            b'd',
+            b' ',
+            b'r',
+            b'e',
+            b'q',
+            b'u',
+            b'e',
+            b's',
+            b't',
+            b'\n',
+        ],
+    );
+    false
+}
+
+// Answers one request, and tells whether to go on.
+fn serve(input: &mut [u8], out: &mut [u8]) -> bool {
+    let mut head = [0u8; 37];
+    let n = io::read_full(STDIN_FILENO, &mut head);
+    if n == 0 {
+        return false;
+    }
+    if n != 37 {
+        return refuse_request();
+    }
+    if !answer(&head, input, out) {
+        return refuse_request();
+    }
+    true
+}
+
+// A proved loop has to end, and nothing says that the requests do. So it counts its turns down, from a number that no run uses up.
+fn serve_all(input: &mut [u8], out: &mut [u8]) {
+    let mut turns = u64::MAX;
+    while turns > 0 && serve(input, out) {
+        turns -= 1;
+    }
+}
+
+fn main() {
+    let mut input = io::large_buffer();
+    let mut out = io::large_buffer();
+    serve_all(&mut input, &mut out);
+}

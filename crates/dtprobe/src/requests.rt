@@ -1,0 +1,69 @@
+// Reading a request: the numbers of its head line, and the content of the slices that it lends.
+ghost use mathlib.Core.Path.{_≡_};
+ghost use Prim.Native.Nat.{_≤_};
+ghost use lib.ListN.{length, take};
+ghost use Rattle.io.specs.Counts.{Counts};
+use fields::Number;
+use libc::STDIN_FILENO;
+
+// Where the numbers of a head line begin, and how far they stand apart.
+const FIRST_SIZE: usize = 2;
+
+const SIZE_STEP: usize = 7;
+
+const SIZE_DIGITS: usize = 6;
+
+// More than any slice has.
+const NO_SIZE: usize = 1000000;
+
+// Number i of a head line, from 0 to 4. Where there are no six digits it is more than any slice has.
+pub fn size_at(head: &[u8; 37], i: usize) -> usize {
+    if i > 4 {
+        return NO_SIZE;
+    }
+    let read = fields::number_at(head, FIRST_SIZE + SIZE_STEP * i, SIZE_DIGITS);
+    let Number::Is(size, _) = read else {
+        return NO_SIZE;
+    };
+    size as usize
+}
+
+// Reads the next n bytes to the start of buf, and answers how many it has read: fewer than n where buf has no room for them or the input ends.
+pub fn read_bytes(buf: &mut [u8], n: usize) -> usize
+    ensures { λ r. ⌜ Counts r (now (buf .exit)) ⌝ }
+{
+    if n > buf.len() {
+        return 0;
+    }
+    io::read_full(STDIN_FILENO, &mut buf[..n])
+}
+
+// The number that a row of 17 digits tells, or 0 where they are none.
+fn row_of(digits: &[u8; 17]) -> u64 {
+    let read = fields::number_at(digits, 0, 17);
+    let Number::Is(row, _) = read else {
+        return 0;
+    };
+    row
+}
+
+// Reads the next n rows to the start of a column, and answers how many it has read: fewer than n where the column has no room for them or the
+// input ends.
+pub fn read_rows(column: &mut [u64], n: usize) -> usize
+    ensures { λ r. ⌜ Counts r (now (column .exit)) ⌝ }
+{
+    if n > column.len() {
+        return 0;
+    }
+    let mut i = 0;
+    while i < n {
+        let mut digits = [0u8; 17];
+        let got = io::read_full(STDIN_FILENO, &mut digits);
+        if got != 17 {
+            return i;
+        }
+        column[i] = row_of(&digits);
+        i += 1;
+    }
+    n
+}
