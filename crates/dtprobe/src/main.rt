@@ -9,6 +9,9 @@ mod requests;
 
 // Makes the call that the head line names, and answers whether the request was whole and within its limits.
 fn answer(head: &[u8; 37], input: &mut [u8], out: &mut [u8]) -> bool {
+    if !requests::has_sizes(head) {
+        return false;
+    }
     let call = head[0];
     if call == b'C' {
         return answers::check(head, input);
@@ -25,24 +28,9 @@ fn answer(head: &[u8; 37], input: &mut [u8], out: &mut [u8]) -> bool {
     false
 }
 
+// Says that a request is none, and answers that there is no going on.
 fn refuse_request() -> bool {
-    io::write_all(
-        STDOUT_FILENO,
-        &[
-            b'b',
-            b'a',
-            b'd',
-            b' ',
-            b'r',
-            b'e',
-            b'q',
-            b'u',
-            b'e',
-            b's',
-            b't',
-            b'\n',
-        ],
-    );
+    io::write_all(STDOUT_FILENO, b"bad request\n");
     false
 }
 

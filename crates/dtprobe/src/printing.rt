@@ -9,7 +9,7 @@ fn number_then(n: u64, mark: u8) {
 }
 
 fn line_end() {
-    io::write_all(STDOUT_FILENO, &[b'\n']);
+    io::write_all(STDOUT_FILENO, b"\n");
 }
 
 // Number and place, the count, and the three totals.

@@ -28,6 +28,15 @@ pub fn size_at(head: &[u8; 37], i: usize) -> usize {
     size as usize
 }
 
+// Whether the head line has its five numbers.
+pub fn has_sizes(head: &[u8; 37]) -> bool {
+    (size_at(head, 0) < NO_SIZE)
+        & (size_at(head, 1) < NO_SIZE)
+        & (size_at(head, 2) < NO_SIZE)
+        & (size_at(head, 3) < NO_SIZE)
+        & (size_at(head, 4) < NO_SIZE)
+}
+
 // Reads the next n bytes to the start of buf, and answers how many it has read: fewer than n where buf has no room for them or the input ends.
 pub fn read_bytes(buf: &mut [u8], n: usize) -> usize
     ensures { λ r. ⌜ Counts r (now (buf .exit)) ⌝ }

@@ -1,0 +1,8 @@
+// Reads a file on standard input and prints its listing, or its refusal: number, tab, place.
+fn main() {
+    let mut input = io::large_buffer();
+    let n = io::read_full(libc::STDIN_FILENO, &mut input);
+    let mut out = io::large_buffer();
+    let length = reply::list(&input[..n], &mut out);
+    io::write_all(libc::STDOUT_FILENO, &out[..length]);
+}

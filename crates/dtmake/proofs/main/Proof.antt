@@ -1,0 +1,73 @@
+-- dtmake::main is safe and ends: what it prints lies in its output.
+-- Assumes nothing.
+use Prim.Native.Nat.{ℕ}
+use mathlib.Core.List.{List}
+use lib.ListN.{length, take}
+use borrow.Author.Needs.{needs}
+use Rattle.reply.specs.Reply.{makeReply}
+use Rattle.reply.proofs.Answers.{reply-inside, reply-long}
+use Rattle.dtmake.proofs.main.Statement.{statement}
+use Rattle.dtmake.proofs.main.Tie as tie
+
+large-buffer-requires : tie.Need-large-buffer-requires
+large-buffer-requires c κs = search needs
+
+slice-aggregate-read-full : tie.Need-slice-aggregate-read-full
+slice-aggregate-read-full c = search needs
+
+read-full-requires : tie.Need-read-full-requires
+read-full-requires c κs = search needs
+
+large-buffer-requires-2 : tie.Need-large-buffer-requires-2
+large-buffer-requires-2 c κs = search needs
+
+array-share-prefix-input : tie.Need-array-share-prefix-input
+array-share-prefix-input c = search needs
+
+slice-aggregate-make : tie.Need-slice-aggregate-make
+slice-aggregate-make c = search needs
+
+slice-aggregate-make-2 : tie.Need-slice-aggregate-make-2
+slice-aggregate-make-2 c = search needs
+
+make-requires : tie.Need-make-requires
+make-requires c κs = search needs
+
+-- what was read, what the output held before, and what is printed
+abbrev input : tie.After-make → List ℕ
+input c = let r = c .before .before .before .before .before .read-full in take (r .result) (r .last .1 .0)
+
+abbrev old : tie.After-make → List ℕ
+old c = c .before .before .before .large-buffer2 .result
+
+abbrev reply : tie.After-make → List ℕ
+reply c = makeReply (length (old c)) (input c)
+
+array-share-prefix-out : tie.Need-array-share-prefix-out
+array-share-prefix-out c = let d = c .before in reply-inside (reply d) (old d) _ _ (d .make .ensures)
+
+slice-aggregate-write-all : tie.Need-slice-aggregate-write-all
+slice-aggregate-write-all c = let d = c .before .before in reply-long (reply d) (old d) _ _ (d .make .ensures)
+
+write-all-requires : tie.Need-write-all-requires
+write-all-requires c κs = search needs
+
+returns : tie.Need-returns
+returns c = search needs
+
+pub main-spec : {M : Type 1} → statement M
+main-spec =
+    tie.close
+    (tie.spec
+    large-buffer-requires
+    slice-aggregate-read-full
+    read-full-requires
+    large-buffer-requires-2
+    array-share-prefix-input
+    slice-aggregate-make
+    slice-aggregate-make-2
+    make-requires
+    array-share-prefix-out
+    slice-aggregate-write-all
+    write-all-requires
+    returns)

@@ -1,0 +1,4 @@
+pub mod DecimalLaws
+pub mod LineLaws
+pub mod ReplyLaws
+pub mod Answers

@@ -1,0 +1,94 @@
+-- A reply: what a call has written, or the line of its refusal, and how the code comes to it.
+-- Assumes nothing.
+use Prim.Native.Nat.{ℕ, _≤_, _<_}
+use mathlib.Core.Path.{_≡_, refl, sym, ap, subst, _∙_}
+use mathlib.Core.Logic.{_≢_}
+use mathlib.Core.List.{List}
+use lib.ListN.{length}
+use borrow.Author.Tests.{le-leb, lt-leb}
+use Rattle.rules.specs.Values.{Document}
+use Rattle.rules.specs.Writing.{write}
+use Rattle.rules.specs.Answer.{filled}
+use Rattle.listing.specs.Composing.{made, denied, compose}
+use Rattle.listing.specs.Endings.{Ending, writes, refuses, composed, within, bytesOf}
+use Rattle.pen.specs.declared.Written.{Written}
+use Rattle.pen.specs.Writing.{writtenOf}
+use Rattle.pen.proofs.EndingLaws as call
+use Rattle.reply.specs.Reply.{refusalLine, printed, limited, fitting}
+use Rattle.reply.proofs.LineLaws.{Says, fits}
+
+-- to an input, where the call would end so with room enough
+abbrev pub reply : ℕ → List ℕ → Ending → List ℕ
+reply room input e = fitting room (printed (limited input (within room e)))
+
+-- ---- what it is
+
+module _ (room : ℕ) (e : Ending) where
+  has-room : {bs : List ℕ} → e ≡ writes bs → length bs ≤ room → within room e ≡ writes bs
+  unfolding within
+  has-room {bs} i l = ap (within room) i ∙ rw (le-leb (length bs) room l)
+
+  pub no-room : {bs : List ℕ} → e ≡ writes bs → room < length bs → within room e ≡ refuses 16 0
+  unfolding within
+  no-room {bs} i l = ap (within room) i ∙ rw (lt-leb (length bs) room l)
+
+  pub stays-refused : {n p : ℕ} → e ≡ refuses n p → within room e ≡ refuses n p
+  unfolding within
+  stays-refused i = ap (within room) i
+
+module _ (room : ℕ) (input : List ℕ) (e : Ending) where
+  pub reply-too-long : 32768 < length input → reply room input e ≡ fitting room (refusalLine 20 32768)
+  unfolding limited
+  reply-too-long h = rw (lt-leb (length input) 32768 h)
+
+  module _ (h : length input ≤ 32768) where
+    as-it-ends : {x : Ending} → within room e ≡ x → reply room input e ≡ fitting room (printed x)
+    unfolding limited
+    as-it-ends i = rw (le-leb (length input) 32768 h) (ap (λ y. fitting room (printed y)) i)
+
+    pub reply-refused : {n p : ℕ} → within room e ≡ refuses n p → reply room input e ≡ fitting room (refusalLine n p)
+    reply-refused = as-it-ends
+
+    pub reply-written : {bs : List ℕ} → e ≡ writes bs → length bs ≤ room → reply room input e ≡ bs
+    reply-written {bs} i l = as-it-ends (has-room room e i l) ∙ fits room bs l
+
+-- ---- how the code comes to it
+
+says-of : (old : List ℕ) {bs cs : List ℕ} → bs ≡ cs → {r : ℕ} {new : List ℕ} → Says cs old r new → Says bs old r new
+says-of old i {r} {new} s = subst (λ x. Says x old r new) (sym i) s
+
+module _ (input old : List ℕ) (e : Ending) where
+  pub print-too-long : 32768 < length input → {r : ℕ} {new : List ℕ} → Says (fitting (length old) (refusalLine 20 32768)) old r new
+      → Says (reply (length old) input e) old r new
+  print-too-long h = says-of old (reply-too-long (length old) input e h)
+
+  module _ (h : length input ≤ 32768) {w : Written} {mid : List ℕ} (told : call.Says e old w mid) where
+    pub print-refused : w .number ≢ 0 → {r : ℕ} {new : List ℕ} → Says (fitting (length mid) (refusalLine (w .number) (w .place))) mid r new
+        → Says (reply (length old) input e) old r new
+    print-refused n {r} {new} s = by (within (length old) e) refl
+      where
+        by : (x : Ending) → within (length old) e ≡ x → Says (reply (length old) input e) old r new
+        by (writes bs) i = absurd (n (ap (λ (y : Written). y .number) (told .0 ∙ ap writtenOf i)))
+        by (refuses m p) i =
+            let k = call.refused-untouched e old w mid told n in
+            let g = told .0 ∙ ap writtenOf i in
+            says-of old (reply-refused (length old) input e h i)
+            (subst (λ (y : Written). Says (fitting (length old) (refusalLine (y .number) (y .place))) old r new) g
+            (subst (λ (o : List ℕ). Says (fitting (length o) (refusalLine (w .number) (w .place))) o r new) k s))
+
+    pub print-written : {bs : List ℕ} → e ≡ writes bs → length bs ≤ length old → Says (reply (length old) input e) old (w .length) mid
+    print-written i l =
+        let g = has-room (length old) e i l in
+        says-of old (reply-written (length old) input e h i l)
+        (ap (λ (y : Written). y .length) (told .0 ∙ ap writtenOf g), told .1 ∙ ap (λ x. filled (bytesOf x) old) g)
+
+-- ---- how composing ends, with room enough
+
+module _ (l : List ℕ) where
+  pub made-ends : {d : Document} → compose l ≡ made d → composed (compose l) ≡ writes (write d)
+  unfolding composed
+  made-ends i = ap composed i
+
+  pub denied-ends : {n p : ℕ} → compose l ≡ denied n p → composed (compose l) ≡ refuses n p
+  unfolding composed
+  denied-ends i = ap composed i

@@ -1,0 +1,43 @@
+-- What the programs print: what the call has written, or one line with the number and the place of the refusal.
+use Prim.Native.Nat.{ℕ, zero, suc, _/_}
+use mathlib.Core.Bool.{cond}
+use mathlib.Core.List.{List, [], _∷_, _++_}
+use lib.ListN.{length}
+use lib.Dec.{leb, ltb}
+use Rattle.form.specs.Kind.{numeral}
+use Rattle.rules.specs.Answer.{answer}
+use Rattle.listing.specs.Lines.{tab, lineEnd}
+use Rattle.listing.specs.Composing.{compose}
+use Rattle.listing.specs.Endings.{Ending, writes, refuses, listed, composed, within}
+
+-- how many digits v has, where n suffice; 0 has one
+unfoldable pub digitsWithin : ℕ → ℕ → ℕ
+digitsWithin zero v = 1
+digitsWithin (suc n) v = cond (ltb v 10) 1 (suc (digitsWithin n (v / 10)))
+
+-- a number in decimal, with no zero ahead; for a number of 64 bits 20 digits suffice
+abbrev pub decimal : ℕ → List ℕ
+decimal v = numeral (digitsWithin 20 v) v
+
+abbrev pub refusalLine : ℕ → ℕ → List ℕ
+refusalLine number place = decimal number ++ (tab ∷ (decimal place ++ (lineEnd ∷ [])))
+
+abbrev pub printed : Ending → List ℕ
+printed (writes bytes) = bytes
+printed (refuses number place) = refusalLine number place
+
+-- the programs take at most 32,768 bytes; that comes before all else
+unfoldable pub limited : List ℕ → Ending → Ending
+limited input end = cond (leb (length input) 32768) end (refuses 20 32768)
+
+-- where there is no room for all of it, nothing
+unfoldable pub fitting : ℕ → List ℕ → List ℕ
+fitting room bytes = cond (leb (length bytes) room) bytes []
+
+-- what dtlist prints for an input, from an output of so much room
+abbrev pub listReply : ℕ → List ℕ → List ℕ
+listReply room file = fitting room (printed (limited file (within room (listed (answer file)))))
+
+-- and what dtmake prints
+abbrev pub makeReply : ℕ → List ℕ → List ℕ
+makeReply room lines = fitting room (printed (limited lines (within room (composed (compose lines)))))
