@@ -1,0 +1,106 @@
+"""The table of cases: the input of each row, and whether a program prints the row's answer."""
+
+import re
+from collections.abc import Iterator
+from dataclasses import dataclass, replace
+from pathlib import Path
+
+from .case_m import CASE_M
+from .document import Document, Part
+from .sides import Side
+
+ESCAPES = {"\\t": "\t", "\\n": "\n", "\\r": "\r", "\\s": " "}
+OTHER_PROGRAM = {"dtlist": "dtmake", "dtmake": "dtlist"}
+
+
+@dataclass(frozen=True)
+class Case:
+    """A row of the table."""
+
+    program: str
+    base: str
+    changes: str
+    answer: str
+    shows: str
+
+
+def read_cases(table: Path) -> Iterator[Case]:
+    """The rows behind the line of headings."""
+    lines = [line for line in table.read_text().splitlines() if line and not line.startswith("#")]
+    for line in lines[1:]:
+        yield Case(*(cell.strip() for cell in line.split("|")))
+
+
+def document_of(base: str) -> Document:
+    """Case M, or case M with other marks, other amounts or more payments."""
+    payment = CASE_M.payments[0]
+    words = base.split()
+    match words[0]:
+        case "file" | "lines":
+            payments = [payment]
+        case "marks":
+            text = payment.parts[0].text
+            payments = [replace(payment, parts=tuple(Part(mark, text) for mark in repeated(words[1:])))]
+        case "cents":
+            payments = [replace(payment, cents=cents) for cents in repeated(words[1:])]
+        case "payments":
+            short = replace(payment, name=b"A", sender_name=b"B", purpose=b"", parts=())
+            payments = [short] * int(words[1])
+        case _:
+            raise ValueError(f"no such base: {base}")
+    return replace(CASE_M, payments=tuple(payments))
+
+
+def repeated(words: list[str]) -> Iterator[int]:
+    """Numbers, of which `7*2` is 7 twice."""
+    for word in words:
+        value, _, times = word.partition("*")
+        yield from [int(value)] * int(times or 1)
+
+
+def unchanged(base: str, as_named: bool) -> bytes:
+    """The base as the table names it, or else its other form: a file's listing, a listing's file."""
+    if base == "empty":
+        return b""
+    document = document_of(base.removeprefix("lines of "))
+    return document.listing.data if base.startswith("lines") == as_named else document.file.data
+
+
+def changed(data: bytes, changes: str) -> bytes:
+    for change in filter(None, changes.split(", ")):
+        data = changed_once(data, change)
+    return data
+
+
+def changed_once(data: bytes, change: str) -> bytes:
+    if put_over := re.fullmatch(r"(\d+)=(.+)", change):
+        place, content = int(put_over[1]), literal(put_over[2])
+        return data[:place] + content + data[place + len(content):]
+    match change.split():
+        case ["cut", end]:
+            return data[:int(end)]
+        case ["drop", start, end]:
+            return data[:int(start)] + data[int(end):]
+        case ["add", content]:
+            return data + literal(content)
+        case ["put", place, content]:
+            return data[:int(place)] + literal(content) + data[int(place):]
+        case _:
+            raise ValueError(f"no such change: {change}")
+
+
+def literal(content: str) -> bytes:
+    for escape, sign in ESCAPES.items():
+        content = content.replace(escape, sign)
+    return content.encode()
+
+
+def is_met(case: Case, side: Side) -> bool:
+    """Whether a side prints what the row says."""
+    data = changed(unchanged(case.base, as_named=True), case.changes)
+    printed = side.printed(case.program, [data])
+    if case.answer != "accepted":
+        return printed == case.answer.replace(" ", "\t").encode() + b"\n"
+    if not case.changes:
+        return printed == unchanged(case.base, as_named=False)
+    return side.printed(OTHER_PROGRAM[case.program], [printed]) == data

@@ -1,0 +1,53 @@
+"""The answers that the model itself gives for its documents: without them both sides could be wrong alike."""
+
+from .document import Document
+from .requests import Column
+
+TOO_SHORT = 16
+TOO_LONG = 20
+MOST_INPUT = 32_768
+MOST_OUTPUT = 65_536
+
+
+def line(*figures: int) -> bytes:
+    return b"\t".join(b"%d" % figure for figure in figures) + b"\n"
+
+
+def checked(document: Document) -> bytes:
+    """The answer to check, which is also the first line of the answer to load."""
+    return line(0, 0, len(document.payments), document.accounts, document.bank_codes, document.cents)
+
+
+def loaded(document: Document, columns: list[Column]) -> bytes:
+    """The answer to load: rows from the count on stay, and all rows where a column is too short."""
+    count = len(document.payments)
+    if min(map(len, columns)) < count:
+        return line(TOO_SHORT, 0, 0, 0, 0, 0) + b"".join(map(column_line, columns))
+    payments = document.payments
+    rows = (
+        [payment.bank_code for payment in payments], [payment.account for payment in payments],
+        [payment.cents for payment in payments], document.starts,
+    )
+    after = (tuple(new) + column[count:] for new, column in zip(rows, columns))
+    return checked(document) + b"".join(map(column_line, after))
+
+
+def column_line(column: Column) -> bytes:
+    return b"".join(b"%d " % row for row in column) + b"\n"
+
+
+def put_out(written: bytes, output: bytes) -> bytes:
+    """The answer to list or compose, writing into the given output."""
+    if len(output) < len(written):
+        return line(TOO_SHORT, 0, 0) + output + b"\n"
+    return line(0, 0, len(written)) + written + output[len(written):] + b"\n"
+
+
+def printed(written: bytes) -> bytes:
+    """What a program prints that composed or listed so much."""
+    return written if len(written) <= MOST_OUTPUT else line(TOO_SHORT, 0)
+
+
+def refused_for_length() -> bytes:
+    """What a program prints for an input that is over its limit, whatever the input is."""
+    return line(TOO_LONG, MOST_INPUT)

@@ -1,0 +1,76 @@
+"""The numbered families of inputs, each from its own random numbers: special ones, then damaged documents."""
+
+from collections.abc import Callable, Iterator
+from itertools import chain
+from random import Random
+
+from .damage_file import file_damages
+from .damage_listing import listing_damages
+from .document import Document, Placed
+from .inputs import Form, Input, valid_input, written_as
+from .shapes import (
+    KINDS, MARK_ORDERS, all_counts, all_dates, all_keys, all_orders, all_signs, altered_marks, any_document,
+    document_of, small_document,
+)
+from .specials import lengths, random_inputs, swept_bytes, totals
+
+# The first documents are small ones, damaged at every field: each kind of file, as a file and as a listing.
+SMALL_FAMILIES = 8
+# How many fields of other documents are damaged, chosen at random; those of long ones are the fewer.
+MOST_FIELDS = 90
+MOST_FIELDS_OF_LONG = 24
+LONG = 10
+
+
+def valid_shapes(rng: Random) -> Iterator[Input]:
+    """Every shape of a valid document, as a file and as a listing."""
+    makers = (all_orders, all_counts, all_dates, all_keys, all_signs)
+    for document in chain.from_iterable(maker(rng) for maker in makers):
+        for form in Form:
+            yield valid_input("valid", form, document)
+
+
+def orders_of_marks(rng: Random) -> Iterator[Input]:
+    """Every legal order of marks with one mark changed; all else, C18 and E included, agrees with it."""
+    for marks in altered_marks():
+        document = document_of(rng, rng.choice(KINDS), [marks])
+        for form in Form:
+            data = written_as(document, form).data
+            yield Input(f"marks {marks}", form, data, document, valid=marks in MARK_ORDERS)
+
+
+FIRST_FAMILIES: tuple[Callable[[Random], Iterator[Input]], ...] = (
+    lengths, totals, random_inputs, valid_shapes, orders_of_marks, swept_bytes,
+)
+
+
+def fields_to_damage(rng: Random, document: Document, form: Form) -> list[Placed]:
+    """Fields of the document in file order, all or as many as are damaged in one family."""
+    fields = written_as(document, form).fields
+    most = MOST_FIELDS if len(document.payments) < LONG else MOST_FIELDS_OF_LONG
+    chosen = sorted(rng.sample(range(len(fields)), min(most, len(fields))))
+    return [fields[number] for number in chosen]
+
+
+def damaged(rng: Random, number: int) -> Iterator[Input]:
+    """The family of a document: itself and its damaged copies; files and listings take turns."""
+    kind = KINDS[number // 2 % len(KINDS)]
+    form = Form.FILE if number % 2 == 0 else Form.LISTING
+    if number < SMALL_FAMILIES:
+        document = small_document(rng, kind)
+        fields = list(written_as(document, form).fields)
+    else:
+        document = any_document(rng, kind)
+        fields = fields_to_damage(rng, document, form)
+    yield valid_input("valid", form, document)
+    damages = file_damages if form is Form.FILE else listing_damages
+    for name, data in damages(rng, document, fields):
+        yield Input(name, form, data, document)
+
+
+def family(seed: int, number: int) -> Iterator[Input]:
+    """The inputs of a family, the same ones for every run with this seed."""
+    rng = Random(f"{seed}/{number}")
+    if number < len(FIRST_FAMILIES):
+        return FIRST_FAMILIES[number](rng)
+    return damaged(rng, number - len(FIRST_FAMILIES))
