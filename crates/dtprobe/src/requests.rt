@@ -1,7 +1,4 @@
 // Reading a request: the numbers of its head line, and the content of the slices that it lends.
-ghost use mathlib.Core.Path.{_≡_};
-ghost use Prim.Native.Nat.{_≤_};
-ghost use lib.ListN.{length, take};
 ghost use Rattle.io.specs.Counts.{Counts};
 use fields::Number;
 use libc::STDIN_FILENO;

@@ -15,6 +15,21 @@ use Rattle.listing.specs.Endings.{Ending, writes, refuses, within, bytesOf}
 use Rattle.pen.specs.declared.Written.{Written}
 use Rattle.pen.specs.Writing.{writtenOf}
 
+-- ---- how an ending stands to the room that there is
+
+module _ (room : ℕ) {e : Ending} where
+  pub roomy : {bs : List ℕ} → e ≡ writes bs → length bs ≤ room → within room e ≡ writes bs
+  unfolding within
+  roomy {bs} i h = ap (within room) i ∙ rw (le-leb (length bs) room h)
+
+  pub too-short : {bs : List ℕ} → e ≡ writes bs → room < length bs → within room e ≡ refuses 16 0
+  unfolding within
+  too-short {bs} i h = ap (within room) i ∙ rw (lt-leb (length bs) room h)
+
+  pub stays-refused : {n p : ℕ} → e ≡ refuses n p → within room e ≡ refuses n p
+  unfolding within
+  stays-refused i = ap (within room) i
+
 -- what the call ensures of its result and of the output, which held `old`
 abbrev pub Says : Ending → List ℕ → Written → List ℕ → Type 0
 Says e old r new = (r ≡ writtenOf (within (length old) e)) × (new ≡ filled (bytesOf (within (length old) e)) old)
@@ -26,23 +41,14 @@ module _ (e : Ending) (old : List ℕ) where
   as-it-ends x i g n = (g ∙ ap writtenOf (sym i), n ∙ ap (λ y. filled (bytesOf y) old) (sym i))
 
   pub ends-refused : {n p : ℕ} → e ≡ refuses n p → {r : Written} → r ≡ writtenOf (refuses n p) → Says e old r old
-  unfolding within
-  ends-refused {n} {p} i g = as-it-ends (refuses n p) (ap (within (length old)) i) g refl
+  ends-refused {n} {p} i g = as-it-ends (refuses n p) (stays-refused (length old) i) g refl
 
   module _ {bs : List ℕ} (i : e ≡ writes bs) where
-    fits-not : length old < length bs → within (length old) e ≡ refuses 16 0
-    unfolding within
-    fits-not h = ap (within (length old)) i ∙ rw (lt-leb (length bs) (length old) h)
-
-    fits : length bs ≤ length old → within (length old) e ≡ writes bs
-    unfolding within
-    fits h = ap (within (length old)) i ∙ rw (le-leb (length bs) (length old) h)
-
     pub ends-short : length old < length bs → {r : Written} → r ≡ writtenOf (refuses 16 0) → Says e old r old
-    ends-short h g = as-it-ends (refuses 16 0) (fits-not h) g refl
+    ends-short h g = as-it-ends (refuses 16 0) (too-short (length old) i h) g refl
 
     pub ends-written : length bs ≤ length old → {r : Written} → r ≡ writtenOf (writes bs) → {new : List ℕ} → new ≡ filled bs old → Says e old r new
-    ends-written h g n = as-it-ends (writes bs) (fits h) g n
+    ends-written h g n = as-it-ends (writes bs) (roomy (length old) i h) g n
 
 -- ---- what it comes to
 
@@ -83,13 +89,12 @@ module _ (e : Ending) (old : List ℕ) where
 
     -- a refusal is given as it is
     pub refused-as : {n p : ℕ} → e ≡ refuses n p → r ≡ record { number = n; place = p; length = 0 }
-    unfolding within
-    refused-as i = says .0 ∙ ap (λ x. writtenOf (within (length old) x)) i
+    refused-as i = says .0 ∙ ap writtenOf (stays-refused (length old) i)
 
     module _ {bs : List ℕ} (i : e ≡ writes bs) where
       -- 16 at 0 where the output is too short
       pub no-room-as : length old < length bs → r ≡ record { number = 16; place = 0; length = 0 }
-      no-room-as h = says .0 ∙ ap writtenOf (fits-not e old i h)
+      no-room-as h = says .0 ∙ ap writtenOf (too-short (length old) i h)
 
       pub has-room : r .number ≡ 0 → length bs ≤ length old
       has-room z = by (leb (length bs) (length old)) refl
@@ -101,6 +106,6 @@ module _ (e : Ending) (old : List ℕ) where
       -- else 0 at 0 with the length, and the output begins with the bytes
       pub written-as : length bs ≤ length old → (r ≡ record { number = 0; place = 0; length = length bs }) × (take (r .length) new ≡ bs)
       written-as h = (
-        says .0 ∙ ap writtenOf (fits e old i h),
-        ap (take (r .length)) (says .1) ∙ take-at (bytesOf end) (drop (length (bytesOf end)) old) (r .length) (sym length-is) ∙ ap bytesOf (fits e old i h),
+        says .0 ∙ ap writtenOf (roomy (length old) i h),
+        ap (take (r .length)) (says .1) ∙ take-at (bytesOf end) (drop (length (bytesOf end)) old) (r .length) (sym length-is) ∙ ap bytesOf (roomy (length old) i h),
       )

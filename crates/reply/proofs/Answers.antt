@@ -22,10 +22,11 @@ use Rattle.listing.specs.Endings.{Ending, writes, refuses, listed, composed, wi
 use Rattle.listing.proofs.Rounds.{listing-composes}
 use Rattle.lister.proofs.ListingLaws.{listed-as, stand-start}
 use Rattle.lister.proofs.ListLaws.{else-refused}
+use Rattle.pen.proofs.EndingLaws.{too-short, stays-refused}
 use Rattle.reply.specs.Reply.{digitsWithin, refusalLine, printed, limited, fitting, listReply, makeReply}
 use Rattle.reply.proofs.DecimalLaws.{no-more}
 use Rattle.reply.proofs.LineLaws.{Says, fits, line-length, line-short}
-use Rattle.reply.proofs.ReplyLaws.{reply, reply-too-long, reply-refused, reply-written, no-room, stays-refused, made-ends, denied-ends}
+use Rattle.reply.proofs.ReplyLaws.{reply, reply-too-long, reply-refused, reply-written, made-ends, denied-ends}
 
 -- ---- what is said of the output
 
@@ -110,13 +111,13 @@ module _ (room : ℕ) where
 
     -- one that there is none to list
     pub lists-not : 44 ≤ room → (x : Acceptable file) → room < length (listing (x .0)) → listReply room file ≡ refusalLine 16 0
-    lists-not h x k = reply-refused room file end l (no-room room end (listed-as file x) k) ∙ line-whole room h 16 0
+    lists-not h x k = reply-refused room file end l (too-short room (listed-as file x) k) ∙ line-whole room h 16 0
 
     -- any other
     pub refuses-file : 44 ≤ room → ¬ Acceptable file → let o = outcome (answer file) in listReply room file ≡ refusalLine (o .number) (o .place)
     refuses-file h n =
         let o = outcome (answer file) in
-        reply-refused room file end l (stays-refused room end (else-refused file n)) ∙ line-whole room h (o .number) (o .place)
+        reply-refused room file end l (stays-refused room (else-refused file n)) ∙ line-whole room h (o .number) (o .place)
 
   -- the listing of a legal document whose file there is room for
   pub makes : (d : Document) → Legal d → length (listing d) ≤ 32768 → length (write d) ≤ room → makeReply room (listing d) ≡ write d
@@ -127,14 +128,14 @@ module _ (room : ℕ) where
       → makeReply room (listing d) ≡ refusalLine 16 0
   makes-not h d g l k =
       let e = composed (compose (listing d)) in
-      reply-refused room (listing d) e l (no-room room e (made-ends (listing d) (listing-composes d g)) k) ∙ line-whole room h 16 0
+      reply-refused room (listing d) e l (too-short room (made-ends (listing d) (listing-composes d g)) k) ∙ line-whole room h 16 0
 
   -- any other
   pub refuses-listing : 44 ≤ room → (input : List ℕ) → length input ≤ 32768 → (n p : ℕ) → compose input ≡ denied n p
       → makeReply room input ≡ refusalLine n p
   refuses-listing h input l n p i =
       let e = composed (compose input) in
-      reply-refused room input e l (stays-refused room e (denied-ends input i)) ∙ line-whole room h n p
+      reply-refused room input e l (stays-refused room (denied-ends input i)) ∙ line-whole room h n p
 
   -- ---- there and back, through an output as long as the longest input
 

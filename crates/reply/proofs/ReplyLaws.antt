@@ -23,19 +23,6 @@ reply room input e = fitting room (printed (limited input (within room e)))
 
 -- ---- what it is
 
-module _ (room : ℕ) (e : Ending) where
-  has-room : {bs : List ℕ} → e ≡ writes bs → length bs ≤ room → within room e ≡ writes bs
-  unfolding within
-  has-room {bs} i l = ap (within room) i ∙ rw (le-leb (length bs) room l)
-
-  pub no-room : {bs : List ℕ} → e ≡ writes bs → room < length bs → within room e ≡ refuses 16 0
-  unfolding within
-  no-room {bs} i l = ap (within room) i ∙ rw (lt-leb (length bs) room l)
-
-  pub stays-refused : {n p : ℕ} → e ≡ refuses n p → within room e ≡ refuses n p
-  unfolding within
-  stays-refused i = ap (within room) i
-
 module _ (room : ℕ) (input : List ℕ) (e : Ending) where
   pub reply-too-long : 32768 < length input → reply room input e ≡ fitting room (refusalLine 20 32768)
   unfolding limited
@@ -50,7 +37,7 @@ module _ (room : ℕ) (input : List ℕ) (e : Ending) where
     reply-refused = as-it-ends
 
     pub reply-written : {bs : List ℕ} → e ≡ writes bs → length bs ≤ room → reply room input e ≡ bs
-    reply-written {bs} i l = as-it-ends (has-room room e i l) ∙ fits room bs l
+    reply-written {bs} i l = as-it-ends (call.roomy room i l) ∙ fits room bs l
 
 -- ---- how the code comes to it
 
@@ -78,7 +65,7 @@ module _ (input old : List ℕ) (e : Ending) where
 
     pub print-written : {bs : List ℕ} → e ≡ writes bs → length bs ≤ length old → Says (reply (length old) input e) old (w .length) mid
     print-written i l =
-        let g = has-room (length old) e i l in
+        let g = call.roomy (length old) i l in
         says-of old (reply-written (length old) input e h i l)
         (ap (λ (y : Written). y .length) (told .0 ∙ ap writtenOf g), told .1 ∙ ap (λ x. filled (bytesOf x) old) g)
 
