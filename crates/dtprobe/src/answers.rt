@@ -1,6 +1,7 @@
 // One function for each kind of request: it reads what the head line announces, makes the call and prints its answer. Each answers whether the
 // request was whole and within its limits.
 use crate::printing;
+use crate::requests::HEAD;
 use crate::requests::read_bytes;
 use crate::requests::read_rows;
 use crate::requests::size_at;
@@ -8,7 +9,7 @@ use crate::requests::size_at;
 // The most rows of a column.
 const MOST_ROWS: usize = 256;
 
-pub fn check(head: &[u8; 37], input: &mut [u8]) -> bool {
+pub fn check(head: &[u8; HEAD], input: &mut [u8]) -> bool {
     let size = size_at(head, 0);
     let n = read_bytes(input, size);
     if n != size {
@@ -30,7 +31,7 @@ fn write_into(composes: bool, input: &[u8], out: &mut [u8]) {
     printing::written(printed, out);
 }
 
-pub fn write(head: &[u8; 37], composes: bool, input: &mut [u8], out: &mut [u8]) -> bool {
+pub fn write(head: &[u8; HEAD], composes: bool, input: &mut [u8], out: &mut [u8]) -> bool {
     let size = size_at(head, 0);
     let n = read_bytes(input, size);
     if n != size {
@@ -56,7 +57,7 @@ fn load_into(s: &[u8], c4: &mut [u64], c5: &mut [u64], c12: &mut [u64], start: &
 }
 
 // Reads the columns that the head line announces, and loads into them.
-fn load_columns(head: &[u8; 37], s: &[u8]) -> bool {
+fn load_columns(head: &[u8; HEAD], s: &[u8]) -> bool {
     let mut c4 = [0u64; MOST_ROWS];
     let mut c5 = [0u64; MOST_ROWS];
     let mut c12 = [0u64; MOST_ROWS];
@@ -82,7 +83,7 @@ fn load_columns(head: &[u8; 37], s: &[u8]) -> bool {
     true
 }
 
-pub fn load(head: &[u8; 37], input: &mut [u8]) -> bool {
+pub fn load(head: &[u8; HEAD], input: &mut [u8]) -> bool {
     let size = size_at(head, 0);
     let n = read_bytes(input, size);
     if n != size {

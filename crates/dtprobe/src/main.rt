@@ -1,5 +1,6 @@
 // A program for tests: reads requests from standard input, makes each call of the library with just the slices that the request lends, and prints
 // the call's whole result and what every lent slice holds afterwards. docs/TESTING.md has the form of requests and answers.
+use crate::requests::HEAD;
 use libc::STDIN_FILENO;
 use libc::STDOUT_FILENO;
 
@@ -8,7 +9,7 @@ mod printing;
 mod requests;
 
 // Makes the call that the head line names, and answers whether the request was whole and within its limits.
-fn answer(head: &[u8; 37], input: &mut [u8], out: &mut [u8]) -> bool {
+fn answer(head: &[u8; HEAD], input: &mut [u8], out: &mut [u8]) -> bool {
     if !requests::has_sizes(head) {
         return false;
     }
@@ -36,12 +37,12 @@ fn refuse_request() -> bool {
 
 // Answers one request, and tells whether to go on.
 fn serve(input: &mut [u8], out: &mut [u8]) -> bool {
-    let mut head = [0u8; 37];
+    let mut head = [0u8; HEAD];
     let n = io::read_full(STDIN_FILENO, &mut head);
     if n == 0 {
         return false;
     }
-    if n != 37 {
+    if n != HEAD {
         return refuse_request();
     }
     if !answer(&head, input, out) {

@@ -3,7 +3,10 @@ ghost use Rattle.io.specs.Counts.{Counts};
 use fields::Number;
 use libc::STDIN_FILENO;
 
-// Where the numbers of a head line begin, and how far they stand apart.
+// The bytes of a head line.
+pub const HEAD: usize = 37;
+
+// Where its numbers begin, and how far they stand apart.
 const FIRST_SIZE: usize = 2;
 
 const SIZE_STEP: usize = 7;
@@ -13,8 +16,11 @@ const SIZE_DIGITS: usize = 6;
 // More than any slice has.
 const NO_SIZE: usize = 1000000;
 
+// The digits of a row.
+const ROW: usize = 17;
+
 // Number i of a head line, from 0 to 4. Where there are no six digits it is more than any slice has.
-pub fn size_at(head: &[u8; 37], i: usize) -> usize {
+pub fn size_at(head: &[u8; HEAD], i: usize) -> usize {
     if i > 4 {
         return NO_SIZE;
     }
@@ -26,7 +32,7 @@ pub fn size_at(head: &[u8; 37], i: usize) -> usize {
 }
 
 // Whether the head line has its five numbers.
-pub fn has_sizes(head: &[u8; 37]) -> bool {
+pub fn has_sizes(head: &[u8; HEAD]) -> bool {
     (size_at(head, 0) < NO_SIZE)
         & (size_at(head, 1) < NO_SIZE)
         & (size_at(head, 2) < NO_SIZE)
@@ -44,9 +50,9 @@ pub fn read_bytes(buf: &mut [u8], n: usize) -> usize
     io::read_full(STDIN_FILENO, &mut buf[..n])
 }
 
-// The number that a row of 17 digits tells, or 0 where they are none.
-fn row_of(digits: &[u8; 17]) -> u64 {
-    let read = fields::number_at(digits, 0, 17);
+// The number that a row tells, or 0 where its bytes are no digits.
+fn row_of(digits: &[u8; ROW]) -> u64 {
+    let read = fields::number_at(digits, 0, ROW);
     let Number::Is(row, _) = read else {
         return 0;
     };
@@ -63,9 +69,9 @@ pub fn read_rows(column: &mut [u64], n: usize) -> usize
     }
     let mut i = 0;
     while i < n {
-        let mut digits = [0u8; 17];
+        let mut digits = [0u8; ROW];
         let got = io::read_full(STDIN_FILENO, &mut digits);
-        if got != 17 {
+        if got != ROW {
             return i;
         }
         column[i] = row_of(&digits);
