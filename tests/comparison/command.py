@@ -16,17 +16,14 @@ def options() -> argparse.Namespace:
         description="Compares dtprobe, dtlist and dtmake with the second program on generated inputs.")
     parser.add_argument("--inputs", type=int, default=20_000, help="at least so many inputs (default: 20000)")
     parser.add_argument("--seed", type=int, default=20261115, help="seed of the inputs (default: 20261115)")
-    parser.add_argument("--every", type=int, default=20,
-                        help="run dtlist or dtmake on one of so many inputs (default: 20)")
-    parser.add_argument("--jobs", type=int, default=2, help="processes to use (default: 2)")
     return parser.parse_args()
 
 
 def main() -> int:
     chosen = options()
-    settings = Settings(our_side(REPOSITORY), second_side(REPOSITORY), chosen.seed, chosen.every,
-                        REPOSITORY / "target" / "comparison")
-    tally = run(settings, chosen.inputs, chosen.jobs)
+    folder = REPOSITORY / "target" / "comparison"
+    settings = Settings(our_side(REPOSITORY), second_side(REPOSITORY), chosen.seed, folder)
+    tally = run(settings, chosen.inputs)
     missing = missing_numbers(tally)
     for call, number in missing:
         print(f"never met: number {number} from {call}")

@@ -17,6 +17,8 @@ from .specials import lengths
 from .tally import Tally
 
 BATCH = 250
+# One in so many inputs goes through a program of its own: starting one takes as long as many requests.
+ONE_RUN_IN = 20
 # Every input of this family goes through the programs: it holds the limits of their inputs and outputs.
 FAMILY_OF_LENGTHS = FIRST_FAMILIES.index(lengths)
 # One in so many program runs is fed in pieces, and in at most so many.
@@ -44,7 +46,6 @@ class Settings:
     ours: Side
     second: Side
     seed: int
-    every: int
     folder: Path
 
 
@@ -99,7 +100,8 @@ class FamilyComparison:
             for request in asked.requests:
                 answer = answer_at(request, ours, second, place)
                 number = number_in_figures(answer.ours)
-                if number is None or not answer.is_right():
+                is_whole = request.answer_end(ours, place) is not None
+                if number is None or not is_whole or not answer.is_right():
                     self.differ(asked, answer, request.wire())
                     return done
                 self.tally.requests += 1
@@ -114,7 +116,7 @@ class FamilyComparison:
         both = ["dtlist", "dtmake"] if asked.given.form is Form.FILE else ["dtmake", "dtlist"]
         if self.family_number == FAMILY_OF_LENGTHS:
             return both
-        if (self.family_number + asked.number) % self.settings.every:
+        if (self.family_number + asked.number) % ONE_RUN_IN:
             return []
         return both[1:] if self.rng.randrange(OTHER_PROGRAM) == 0 else both[:1]
 
@@ -124,10 +126,11 @@ class FamilyComparison:
         second = self.settings.second.printed(program, pieces)
         answer = Answer(program, ours, second, expected_print(asked.given, program))
         self.tally.runs += 1
-        if answer.is_right():
-            self.tally.met[program, number_printed(answer.ours)] += 1
-        else:
+        number = number_printed(ours)
+        if number is None or not answer.is_right():
             self.differ(asked, answer, asked.given.data)
+        else:
+            self.tally.met[program, number] += 1
 
     def pieces(self, data: bytes) -> list[bytes]:
         """The data whole, or now and then cut at random places."""

@@ -24,7 +24,8 @@ def lengths_agreeing(written: Written, fields: list[Placed]) -> Iterator[Named]:
         for parts in range(MOST_PARTS + 1):
             damaged = replaced(written.data, field, number(length_of_payment(parts), 4))
             damaged = replaced(damaged, numbers[field.record], number(parts, 2))
-            yield f"C1 and C18 of {parts} parts in record {field.record}", damaged
+            if damaged != written.data:
+                yield f"C1 and C18 of {parts} parts in record {field.record}", damaged
 
 
 def file_damages(rng: Random, document: Document, fields: list[Placed]) -> Iterator[Named]:

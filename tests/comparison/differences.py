@@ -6,6 +6,8 @@ from pathlib import Path
 
 FIGURES = re.compile(rb"(\d+)\t")
 REFUSAL = re.compile(rb"(\d+)\t\d+\n")
+# How a listing and a file begin.
+BEGINNINGS = (b"A\t", b"0128A")
 # How much of an answer a message shows.
 SHOWN = 100
 
@@ -29,10 +31,11 @@ def number_in_figures(answer: bytes) -> int | None:
     return int(found[1]) if found else None
 
 
-def number_printed(printed: bytes) -> int:
-    """The number of a refusal that a program printed, or 0 where it printed a listing or a file."""
-    found = REFUSAL.fullmatch(printed)
-    return int(found[1]) if found else 0
+def number_printed(printed: bytes) -> int | None:
+    """The number of a refusal that a program printed, 0 for a listing or a file, None for anything else."""
+    if found := REFUSAL.fullmatch(printed):
+        return int(found[1])
+    return 0 if printed.startswith(BEGINNINGS) else None
 
 
 def shortened(answer: bytes) -> str:

@@ -6,10 +6,11 @@ from contextlib import suppress
 from dataclasses import dataclass
 from pathlib import Path
 from tempfile import TemporaryFile
+from threading import Timer
 
 # Our programs, and what the second program calls them.
 PROGRAMS = {"dtprobe": "probe", "dtlist": "list", "dtmake": "make"}
-# Seconds after which a program is taken to have no end.
+# Seconds after which a program is taken to have no end, and is killed.
 PATIENCE = 120
 # Seconds between two pieces of an input.
 PAUSE = 0.002
@@ -25,11 +26,15 @@ class Side:
         """All that a program prints, fed piece after piece; an exit status other than 0 counts as printed."""
         # Into a file: dtprobe prints in small portions, and in a pipe each of them would wake the reader.
         with TemporaryFile() as output:
-            process = subprocess.Popen(
-                self.words[program], stdin=subprocess.PIPE, stdout=output, stderr=subprocess.STDOUT)
+            # Without a buffer, what a program no longer takes is not written again when its input is closed.
+            process = subprocess.Popen(self.words[program], bufsize=0, stdin=subprocess.PIPE, stdout=output,
+                                       stderr=subprocess.STDOUT)
+            limit = Timer(PATIENCE, process.kill)
+            limit.start()
             for piece in pieces[:-1]:
                 feed(process, piece)
-            finish(process, pieces[-1])
+            process.communicate(pieces[-1])
+            limit.cancel()
             output.seek(0)
             printed = output.read()
         return printed if process.returncode == 0 else printed + b"(exit status %d)\n" % process.returncode
@@ -40,17 +45,7 @@ def feed(process: subprocess.Popen[bytes], piece: bytes) -> None:
     # A program may stop reading early, when it has read more than its limit.
     with suppress(BrokenPipeError):
         process.stdin.write(piece)
-        process.stdin.flush()
     time.sleep(PAUSE)
-
-
-def finish(process: subprocess.Popen[bytes], piece: bytes) -> None:
-    """Writes the last piece and waits for the program's end, or ends it when that does not come."""
-    try:
-        process.communicate(piece, timeout=PATIENCE)
-    except subprocess.TimeoutExpired:
-        process.kill()
-        process.wait()
 
 
 def our_side(repository: Path) -> Side:

@@ -22,7 +22,7 @@ PAYMENTS_IN_INPUT = MOST_INPUT // 256 - 1
 PAYMENTS_IN_OUTPUT = MOST_OUTPUT // 256 - 1
 LONG_PAYMENTS_IN_OUTPUT = (MOST_OUTPUT - 256) // 768
 RANDOM_INPUTS = 150
-SWEPT_FIELDS = {Form.FILE: ("C5", "C9", "C13", "C14a"), Form.LISTING: ("C5", "C14a")}
+SWEPT_FIELDS = {Form.FILE: ("C5", "C9", "C13", "C14a", "C17a"), Form.LISTING: ("C5", "C14a")}
 
 
 def short_document(rng: Random, amounts: Sequence[int], marks: Marks = ()) -> Document:
@@ -113,7 +113,7 @@ def random_inputs(rng: Random) -> Iterator[Input]:
 
 
 def swept_bytes(rng: Random) -> Iterator[Input]:
-    """Every byte value in a field of each kind, at its first, its last and a random place."""
+    """Every byte value in a field of each kind, at its first, its last or another place."""
     base = document_of(rng, rng.choice(KINDS), [(2,)])
     for form, names in SWEPT_FIELDS.items():
         written = written_as(base, form)

@@ -4,7 +4,8 @@ from collections import Counter
 from dataclasses import dataclass, field
 
 CALLS = ("check", "load", "list", "compose", "dtlist", "dtmake")
-# The numbers that generated inputs can reach. 6, 7 and 8 take millions of payments, 19 belongs to the view.
+# The numbers that generated inputs can reach. 6 takes ten million payments, nothing reaches 7 and 8, and 19
+# belongs to the view.
 OF_FILE = (1, 2, 3, 4, 5, 9, 10, 11, 12, 13, 14, 15)
 OF_LISTING = (2, 3, 4, 9, 10, 11, 12, 13, 16, 17, 18)
 REACHABLE = {

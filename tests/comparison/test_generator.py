@@ -102,7 +102,3 @@ class TestFamilies(unittest.TestCase):
     def test_both_forms(self) -> None:
         forms = [{given.form for given in family(7, len(FIRST_FAMILIES) + number)} for number in (0, 1)]
         self.assertEqual(forms, [{Form.FILE}, {Form.LISTING}])
-
-
-if __name__ == "__main__":
-    unittest.main()
