@@ -13,11 +13,12 @@ use Rattle.rules.specs.Writing.{write, Acceptable}
 use Rattle.rules.specs.Answer.{answer}
 use Rattle.listing.specs.Listing.{listing}
 use Rattle.listing.specs.Composing.{Composed, made, denied, compose}
-use Rattle.listing.specs.Endings.{writes, composed}
+use Rattle.listing.specs.Endings.{composed}
 use Rattle.listing.proofs.NumberLaws.{never-zero}
 use Rattle.listing.proofs.Rounds.{listing-composes, composes-exactly, listing-round}
 use Rattle.pen.specs.declared.Written.{Written}
 use Rattle.pen.proofs.EndingLaws as endings
+use Rattle.composer.proofs.CallLaws.{made-ends, denied-ends}
 
 -- what `compose` ensures of its result and of the output, for the listing and what the output held before
 abbrev pub Says : List ℕ → List ℕ → Written → List ℕ → Type 0
@@ -38,21 +39,16 @@ module _ (l old : List ℕ) where
 
     -- a refused listing is given its number and its place
     pub refused-as : (n p : ℕ) → compose l ≡ denied n p → r ≡ record { number = n; place = p; length = 0 }
-    unfolding composed
-    refused-as n p e = endings.refused-as (composed (compose l)) old r new says (ap composed e)
+    refused-as n p e = endings.refused-as (composed (compose l)) old r new says (denied-ends e)
 
     module _ (d : Document) (e : compose l ≡ made d) where
-      ends : composed (compose l) ≡ writes (write d)
-      unfolding composed
-      ends = ap composed e
-
       -- an accepted one is answered 16 at 0 where the output is shorter than the file
       pub no-room-as : length old < length (write d) → r ≡ record { number = 16; place = 0; length = 0 }
-      no-room-as = endings.no-room-as (composed (compose l)) old r new says ends
+      no-room-as = endings.no-room-as (composed (compose l)) old r new says (made-ends e)
 
       -- else the length given is that of the file, and the output begins with it
       pub file-is : length (write d) ≤ length old → (r ≡ record { number = 0; place = 0; length = length (write d) }) × (take (r .length) new ≡ write d)
-      file-is = endings.written-as (composed (compose l)) old r new says ends
+      file-is = endings.written-as (composed (compose l)) old r new says (made-ends e)
 
     -- 0 exactly for the listings of legal documents whose file the output has room for
     pub composes-exactly-where : (r .number ≡ 0) ↔ ((d : Document) × Legal d × (listing d ≡ l) × (length (write d) ≤ length old))
@@ -61,7 +57,7 @@ module _ (l old : List ℕ) where
         zero-needs : (c : Composed Document) → compose l ≡ c → r .number ≡ 0 → (d : Document) × Legal d × (listing d ≡ l) × (length (write d) ≤ length old)
         zero-needs (made d) e z =
             let x = composes-exactly l d .0 e in
-            (d, x.0, x.1, endings.has-room (composed (compose l)) old r new says (ends d e) z)
+            (d, x.0, x.1, endings.has-room (composed (compose l)) old r new says (made-ends e) z)
         zero-needs (denied n p) e z = absurd (never-zero l n p e (sym (ap (λ (w : Written). w .number) (refused-as n p e)) ∙ z))
 
     -- what was written is a file that the check accepts, and its listing is the one that was given

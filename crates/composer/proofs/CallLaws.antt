@@ -13,7 +13,7 @@ use Rattle.fields.proofs.AnswerLaws.{zero-one}
 use Rattle.sums.specs.declared.Sums.{Sums}
 use Rattle.sums.specs.Sums.{totalsOf}
 use Rattle.listing.specs.Composing.{Composed, made, denied, compose}
-use Rattle.listing.specs.Endings.{refuses, composed, bytesOf}
+use Rattle.listing.specs.Endings.{writes, refuses, composed, bytesOf}
 use Rattle.listing.proofs.Rounds.{composed-listing}
 use Rattle.pen.specs.declared.Written.{Written}
 use Rattle.pen.specs.Writing.{writtenOf}
@@ -23,6 +23,15 @@ use Rattle.composer.specs.declared.LinesRead.the-variants as lines
 use Rattle.composer.specs.Telling.{listingTold, linesWhy}
 use Rattle.composer.specs.Writing.{Ready}
 use Rattle.composer.proofs.FileLaws.{file-length, payments-small}
+
+-- how composing ends, with room enough
+pub made-ends : {c : Composed Document} {d : Document} → c ≡ made d → composed c ≡ writes (write d)
+unfolding composed
+made-ends i = ap composed i
+
+pub denied-ends : {c : Composed Document} {n p : ℕ} → c ≡ denied n p → composed c ≡ refuses n p
+unfolding composed
+denied-ends i = ap composed i
 
 -- what was told of a listing that is accepted
 pub record Told (l : List ℕ) (count : ℕ) (sums : Sums) (size : ℕ) : Type 0 where
@@ -39,13 +48,12 @@ module _ (l old : List ℕ) {a : LinesRead} (told : a ≡ listingTold (compose l
   -- the listing is refused
   pub call-refused : {x w : Refusal} {r : Written} → a ≡ lines.Refused x → w ≡ linesWhy a → r ≡ writtenOf (refuses (w .number) (w .place))
       → Says (composed (compose l)) old r old
-  unfolding composed
   call-refused {x} {w} {r} given why is = by (compose l) refl (sym told ∙ given)
     where
       by : (c : Composed Document) → compose l ≡ c → listingTold c ≡ lines.Refused x → Says (composed (compose l)) old r old
       by (made d) e g = absurd (zero-one cc)
       by (denied n p) e g =
-          ends-refused (composed (compose l)) old (ap composed e) (is ∙ ap (λ (y : Refusal). writtenOf (refuses (y .number) (y .place))) (why ∙ ap linesWhy (given ∙ sym g)))
+          ends-refused (composed (compose l)) old (denied-ends e) (is ∙ ap (λ (y : Refusal). writtenOf (refuses (y .number) (y .place))) (why ∙ ap linesWhy (given ∙ sym g)))
 
   module _ {count size : ℕ} {sums : Sums} (given : a ≡ lines.Are count sums size) where
     pub call-told : Told l count sums size
@@ -64,8 +72,7 @@ module _ (l old : List ℕ) {a : LinesRead} (told : a ≡ listingTold (compose l
 
     -- the output is too short
     pub call-short : length old < 256 + size → {r : Written} → r ≡ writtenOf (refuses 16 0) → Says (composed (compose l)) old r old
-    unfolding composed
-    call-short h g = let t = call-told in let e = t .length in ends-short (composed (compose l)) old (ap composed (t .made)) (omega arith) g
+    call-short h g = let t = call-told in let e = t .length in ends-short (composed (compose l)) old (made-ends (t .made)) (omega arith) g
 
     module _ (h : 256 + size ≤ length old) where
       pub call-ready : Ready l (totalsOf count sums) (length old)
@@ -73,10 +80,9 @@ module _ (l old : List ℕ) {a : LinesRead} (told : a ≡ listingTold (compose l
 
       pub call-written : {new : List ℕ} → new ≡ filled (bytesOf (composed (compose l))) old
           → Says (composed (compose l)) old (record { number = 0; place = 0; length = 256 + size }) new
-      unfolding composed
       call-written n =
           let t = call-told in
           let e = t .length in
-          let w = ap composed (t .made) in
+          let w = made-ends (t .made) in
           ends-written (composed (compose l)) old w (omega arith) (ap (λ (m : ℕ). record { number = 0; place = 0; length = m }) e)
           (n ∙ ap (λ x. filled (bytesOf x) old) w)

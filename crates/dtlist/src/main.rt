@@ -1,8 +1,18 @@
 // Reads a file on standard input and prints its listing, or its refusal: number, tab, place.
+ghost use mathlib.Core.Path.{_≡_};
+ghost use Rattle.reply.specs.Reply.{listReply};
+
+// No contract can say which bytes a call of C writes. That the reply to what was read is handed to it is said here.
+fn print(input: &[u8], reply: &[u8])
+    requires { ⌜ now reply ≡ listReply 65536 (now input) ⌝ }
+{
+    io::write_all(libc::STDOUT_FILENO, reply);
+}
+
 fn main() {
     let mut input = io::large_buffer();
     let n = io::read_full(libc::STDIN_FILENO, &mut input);
     let mut out = io::large_buffer();
     let length = reply::list(&input[..n], &mut out);
-    io::write_all(libc::STDOUT_FILENO, &out[..length]);
+    print(&input[..n], &out[..length]);
 }

@@ -6,7 +6,9 @@ use libc::STDIN_FILENO;
 // The bytes of a head line.
 pub const HEAD: usize = 37;
 
-// Where its numbers begin, and how far they stand apart.
+// How many numbers it has, where they begin, and how far they stand apart.
+const SIZES: usize = 5;
+
 const FIRST_SIZE: usize = 2;
 
 const SIZE_STEP: usize = 7;
@@ -19,9 +21,9 @@ const NO_SIZE: usize = 1000000;
 // The digits of a row.
 const ROW: usize = 17;
 
-// Number i of a head line, from 0 to 4. Where there are no six digits it is more than any slice has.
+// Number i of a head line, from 0. Where there are no six digits it is more than any slice has.
 pub fn size_at(head: &[u8; HEAD], i: usize) -> usize {
-    if i > 4 {
+    if i >= SIZES {
         return NO_SIZE;
     }
     let read = fields::number_at(head, FIRST_SIZE + SIZE_STEP * i, SIZE_DIGITS);

@@ -121,7 +121,8 @@ module _ (n : ℕ) (f : List ℕ) (a : Accepted n f) where
   listing-is : listingOf f ≡ listing d
   listing-is = ap bytesOf (listed-as f found)
 
-  listing-short : length (listingOf f) ≤ length f
+  -- no longer than the file
+  pub listing-short : length (listingOf f) ≤ length f
   listing-short =
       let e = ap length listing-is ∙ length-append (headerLine (d .header)) (paymentLines (d .payments)) in
       let w = ap length starts-with-A ∙ length-append (writeHeader (d .header)) behindA in

@@ -52,6 +52,14 @@ module _ (e : Ending) (old : List ℕ) where
 
 -- ---- what it comes to
 
+-- n bytes at the start of an output were written
+module _ (bs old : List ℕ) {n : ℕ} {new : List ℕ} (l : n ≡ length bs) (f : new ≡ filled bs old) where
+  pub filled-first : take n new ≡ bs
+  filled-first = ap (take n) f ∙ take-at bs (drop (length bs) old) n (sym l)
+
+  pub filled-behind : drop n new ≡ drop n old
+  filled-behind = ap (drop n) f ∙ drop-at bs (drop (length bs) old) n (sym l) ∙ ap (λ k. drop k old) (sym l)
+
 sixteen : _≡_ {A = ℕ} 0 16 → ⊥
 sixteen e = omega arith
 
@@ -82,10 +90,7 @@ module _ (e : Ending) (old : List ℕ) where
 
     -- and the output past it is as it was
     pub tail-is : drop (r .length) new ≡ drop (r .length) old
-    tail-is =
-        ap (drop (r .length)) (says .1)
-        ∙ drop-at (bytesOf end) (drop (length (bytesOf end)) old) (r .length) (sym length-is)
-        ∙ ap (λ n. drop n old) (sym length-is)
+    tail-is = filled-behind (bytesOf end) old length-is (says .1)
 
     -- a refusal is given as it is
     pub refused-as : {n p : ℕ} → e ≡ refuses n p → r ≡ record { number = n; place = p; length = 0 }
@@ -107,5 +112,5 @@ module _ (e : Ending) (old : List ℕ) where
       pub written-as : length bs ≤ length old → (r ≡ record { number = 0; place = 0; length = length bs }) × (take (r .length) new ≡ bs)
       written-as h = (
         says .0 ∙ ap writtenOf (roomy (length old) i h),
-        ap (take (r .length)) (says .1) ∙ take-at (bytesOf end) (drop (length (bytesOf end)) old) (r .length) (sym length-is) ∙ ap bytesOf (roomy (length old) i h),
+        filled-first (bytesOf end) old length-is (says .1) ∙ ap bytesOf (roomy (length old) i h),
       )

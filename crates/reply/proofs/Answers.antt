@@ -1,13 +1,12 @@
 -- What the statements of `list` and `make` come to: each admits one answer, with which the output begins; what it says to which input; and in an
 -- output of 32,768 bytes nothing of it is cut, and each acceptable file is listed and comes back.
 -- Assumes nothing.
-use Prim.Native.Nat.{ℕ, _^_, _≤_, _<_}
+use Prim.Native.Nat.{ℕ, _≤_, _<_}
 use native.Mathlib.Omega.{arith}
 use mathlib.Core.Path.{_≡_, refl, sym, ap, subst, _∙_}
 use mathlib.Core.Bool.{Bool, true, false, cond}
 use mathlib.Core.List.{List}
 use lib.ListN.{length, take, drop, length-append}
-use lib.Seq.{take-at, drop-at}
 use lib.Dec.{leb}
 use borrow.Author.Tests.{leb-true}
 use Rattle.form.specs.Kind.{numeral}
@@ -20,35 +19,32 @@ use Rattle.listing.specs.Listing.{listing}
 use Rattle.listing.specs.Composing.{denied, compose}
 use Rattle.listing.specs.Endings.{Ending, writes, refuses, listed, composed, within, bytesOf}
 use Rattle.listing.proofs.Rounds.{listing-composes}
-use Rattle.lister.proofs.ListingLaws.{listed-as, stand-start}
+use Rattle.lister.proofs.ListingLaws.{listed-as, listing-short}
 use Rattle.lister.proofs.ListLaws.{else-refused}
-use Rattle.pen.proofs.EndingLaws.{too-short, stays-refused}
-use Rattle.reply.specs.Reply.{digitsWithin, refusalLine, printed, limited, fitting, listReply, makeReply}
-use Rattle.reply.proofs.DecimalLaws.{no-more}
-use Rattle.reply.proofs.LineLaws.{Says, fits, line-length, line-short}
-use Rattle.reply.proofs.ReplyLaws.{reply, reply-too-long, reply-refused, reply-written, made-ends, denied-ends}
+use Rattle.composer.proofs.CallLaws.{made-ends, denied-ends}
+use Rattle.pen.proofs.EndingLaws.{too-short, stays-refused, filled-first, filled-behind}
+use Rattle.reply.specs.Reply.{digitsWithin, refusalLine, printed, limited, fitting, reply, listReply, makeReply}
+use Rattle.reply.proofs.LineLaws.{Says, fits, line-short}
+use Rattle.reply.proofs.ReplyLaws.{reply-too-long, reply-refused, reply-written}
 
 -- ---- what is said of the output
 
 module _ (bs old : List ℕ) where
   -- one length, and one content of the output
-  pub one-answer : (r s : ℕ) (a b : List ℕ) → Says bs old r a → Says bs old s b → (r ≡ s) × (a ≡ b)
+  one-answer : (r s : ℕ) (a b : List ℕ) → Says bs old r a → Says bs old s b → (r ≡ s) × (a ≡ b)
   one-answer r s a b d e = (d .0 ∙ sym (e .0), d .1 ∙ sym (e .1))
 
   module _ (r : ℕ) (new : List ℕ) (says : Says bs old r new) where
     -- the output begins with the reply, and is behind it as it was
     pub reply-is : take r new ≡ bs
-    reply-is = ap (take r) (says .1) ∙ take-at bs (drop (length bs) old) r (sym (says .0))
+    reply-is = filled-first bs old (says .0) (says .1)
 
     -- so that much of the output can be lent to be printed
     pub reply-inside : r ≤ length new
     reply-inside = omega (arith, says .0, ap length (says .1), length-append bs (drop (length bs) old))
 
-    pub reply-long : r ≡ length (take r new)
-    reply-long = says .0 ∙ sym (ap length reply-is)
-
     pub tail-is : drop r new ≡ drop r old
-    tail-is = ap (drop r) (says .1) ∙ drop-at bs (drop (length bs) old) r (sym (says .0)) ∙ ap (λ n. drop n old) (sym (says .0))
+    tail-is = filled-behind bs old (says .0) (says .1)
 
 -- what `list` and `make` ensure of their result and of the output, for the input and what the output held before
 abbrev pub ListSays : List ℕ → List ℕ → ℕ → List ℕ → Type 0
@@ -65,11 +61,7 @@ make-one-answer l old = one-answer (makeReply (length old) l) old
 
 -- ---- nothing of it is cut
 
--- 20 digits, a tab, 20 digits, the line's end
-pub line-fits : (n p : ℕ) → n < 10 ^ 20 → p < 10 ^ 20 → length (refusalLine n p) ≤ 42
-line-fits n p h i = omega (arith, line-length n p, no-more 19 n h, no-more 19 p i)
-
-module _ (room : ℕ) (h : 44 ≤ room) where
+module _ (room : ℕ) (h : 42 ≤ room) where
   line-whole : (n p : ℕ) → fitting room (refusalLine n p) ≡ refusalLine n p
   line-whole n p = fits room (refusalLine n p) (omega (arith, line-short n p))
 
@@ -110,47 +102,47 @@ module _ (room : ℕ) where
     lists x = reply-written room file end l (listed-as file x)
 
     -- one that there is none to list
-    pub lists-not : 44 ≤ room → (x : Acceptable file) → room < length (listing (x .0)) → listReply room file ≡ refusalLine 16 0
+    pub lists-not : 42 ≤ room → (x : Acceptable file) → room < length (listing (x .0)) → listReply room file ≡ refusalLine 16 0
     lists-not h x k = reply-refused room file end l (too-short room (listed-as file x) k) ∙ line-whole room h 16 0
 
     -- any other
-    pub refuses-file : 44 ≤ room → ¬ Acceptable file → let o = outcome (answer file) in listReply room file ≡ refusalLine (o .number) (o .place)
+    pub refuses-file : 42 ≤ room → ¬ Acceptable file → let o = outcome (answer file) in listReply room file ≡ refusalLine (o .number) (o .place)
     refuses-file h n =
         let o = outcome (answer file) in
         reply-refused room file end l (stays-refused room (else-refused file n)) ∙ line-whole room h (o .number) (o .place)
 
   -- the listing of a legal document whose file there is room for
   pub makes : (d : Document) → Legal d → length (listing d) ≤ 32768 → length (write d) ≤ room → makeReply room (listing d) ≡ write d
-  makes d g l = reply-written room (listing d) (composed (compose (listing d))) l (made-ends (listing d) (listing-composes d g))
+  makes d g l = reply-written room (listing d) (composed (compose (listing d))) l (made-ends (listing-composes d g))
 
   -- one that there is none for
-  pub makes-not : 44 ≤ room → (d : Document) → Legal d → length (listing d) ≤ 32768 → room < length (write d)
+  pub makes-not : 42 ≤ room → (d : Document) → Legal d → length (listing d) ≤ 32768 → room < length (write d)
       → makeReply room (listing d) ≡ refusalLine 16 0
   makes-not h d g l k =
       let e = composed (compose (listing d)) in
-      reply-refused room (listing d) e l (too-short room (made-ends (listing d) (listing-composes d g)) k) ∙ line-whole room h 16 0
+      reply-refused room (listing d) e l (too-short room (made-ends (listing-composes d g)) k) ∙ line-whole room h 16 0
 
   -- any other
-  pub refuses-listing : 44 ≤ room → (input : List ℕ) → length input ≤ 32768 → (n p : ℕ) → compose input ≡ denied n p
+  pub refuses-listing : 42 ≤ room → (input : List ℕ) → length input ≤ 32768 → (n p : ℕ) → compose input ≡ denied n p
       → makeReply room input ≡ refusalLine n p
   refuses-listing h input l n p i =
       let e = composed (compose input) in
-      reply-refused room input e l (stays-refused room (denied-ends input i)) ∙ line-whole room h n p
+      reply-refused room input e l (stays-refused room (denied-ends i)) ∙ line-whole room h n p
 
   -- ---- there and back, through an output as long as the longest input
 
   module _ (h : 32768 ≤ room) (file : List ℕ) (x : Acceptable file) (l : length file ≤ 32768) where
-    listing-short : length (listing (x .0)) ≤ length file
-    listing-short =
+    short : length (listing (x .0)) ≤ length file
+    short =
         subst (λ e. length (bytesOf e) ≤ length file) (listed-as file x)
-        (stand-start (outcome (answer file) .totals .count) file (zero-exactly file .1 x, refl) .short)
+        (listing-short (outcome (answer file) .totals .count) file (zero-exactly file .1 x, refl))
 
     -- a listing is no longer than its file, so there is room for it
     pub always-lists : listReply room file ≡ listing (x .0)
-    always-lists = let s = listing-short in lists file l x (omega arith)
+    always-lists = let s = short in lists file l x (omega arith)
 
     pub comes-back : makeReply room (listReply room file) ≡ file
     comes-back =
-        let s = listing-short in
+        let s = short in
         let long : length (write (x .0)) ≡ length file = ap length (x .2) in
         ap (makeReply room) always-lists ∙ makes (x .0) (x .1) (omega arith) (omega arith) ∙ x .2

@@ -9,18 +9,19 @@ use mathlib.Core.Bool.{Bool, true, false}
 use lib.Dec.{ltb}
 use borrow.Author.Tests.{ltb-true, ltb-false, lt-ltb, le-ltb}
 use Rattle.form.specs.Kind.{numeral}
+use Rattle.form.specs.Reader.{number}
+use Rattle.form.proofs.KindLaws.{number-numeral}
 use Rattle.reply.specs.Reply.{digitsWithin, decimal}
 
 -- ---- one digit, or one more than the tenth
 
-one-digit : (n v : ℕ) → v < 10 → digitsWithin n v ≡ 1
+one-digit : (n v : ℕ) → v < 10 → digitsWithin (suc n) v ≡ 1
 unfolding digitsWithin
-one-digit zero v h = refl
-one-digit (suc n) v h = rw (lt-ltb v 10 h)
+one-digit n v h = rw (lt-ltb v 10 h)
 
-no-place : (v : ℕ) → digitsWithin 0 v ≡ 1
+no-digit : (v : ℕ) → digitsWithin 0 v ≡ 0
 unfolding digitsWithin
-no-place v = refl
+no-digit v = refl
 
 another-digit : (n v : ℕ) → 10 ≤ v → digitsWithin (suc n) v ≡ suc (digitsWithin n (v / 10))
 unfolding digitsWithin
@@ -38,50 +39,55 @@ few-or-more v = by (ltb v 10) refl
 
 -- ---- how many
 
--- one more than n, whatever the number
-pub one-too-many : (n v : ℕ) → digitsWithin n v ≤ suc n
-one-too-many zero v = omega (arith, no-place v)
-one-too-many (suc n) v =
-    ⊎-elim (λ h. omega (arith, one-digit (suc n) v h)) (λ h. omega (arith, another-digit n v h, one-too-many n (v / 10))) (few-or-more v)
+-- whatever the number
+pub no-more : (n v : ℕ) → digitsWithin n v ≤ n
+no-more zero v = omega (arith, no-digit v)
+no-more (suc n) v =
+    ⊎-elim (λ h. omega (arith, one-digit n v h)) (λ h. omega (arith, another-digit n v h, no-more n (v / 10))) (few-or-more v)
 
--- n, where n suffice
-pub no-more : (n v : ℕ) → v < 10 ^ suc n → digitsWithin (suc n) v ≤ suc n
-no-more zero v h = omega (arith, one-digit 1 v h)
-no-more (suc n) v h =
-    ⊎-elim (λ l. omega (arith, one-digit (suc (suc n)) v l))
-    (λ l. omega (arith, another-digit (suc n) v l, no-more n (v / 10) (tenth (suc n) v .1 h))) (few-or-more v)
-
--- and these suffice
-pub digits-suffice : (n v : ℕ) → v < 10 ^ n → v < 10 ^ digitsWithin n v
-digits-suffice zero v h = rw (no-place v) (omega arith)
+-- where n suffice, so do these
+digits-suffice : (n v : ℕ) → v < 10 ^ n → v < 10 ^ digitsWithin n v
+digits-suffice zero v h = rw (no-digit v) h
 digits-suffice (suc n) v h =
-    ⊎-elim (λ l. rw (one-digit (suc n) v l) l)
+    ⊎-elim (λ l. rw (one-digit n v l) l)
     (λ l. rw (another-digit n v l) (tenth (digitsWithin n (v / 10)) v .0 (digits-suffice n (v / 10) (tenth n v .1 h)))) (few-or-more v)
+
+-- nor are they more than it has: where there are two, the first is no 0
+pub no-zero-ahead : (n v k : ℕ) → digitsWithin n v ≡ suc (suc k) → 10 ^ suc k ≤ v
+no-zero-ahead zero v k e = absurd (omega (arith, e, no-digit v))
+no-zero-ahead (suc n) v zero e = ⊎-elim (λ l. absurd (omega (arith, e, one-digit n v l))) (λ l. l) (few-or-more v)
+no-zero-ahead (suc n) v (suc k) e =
+    ⊎-elim (λ l. absurd (omega (arith, e, one-digit n v l)))
+    (λ l. rw (pow-suc 10 (suc k)) (omega (arith, no-zero-ahead n (v / 10) k (omega (arith, e, another-digit n v l))))) (few-or-more v)
 
 -- ---- the numeral
 
 pub decimal-digits : (v : ℕ) → v < 10 ^ 20 → numeral (digitsWithin 20 v) (v % 10 ^ digitsWithin 20 v) ≡ decimal v
 decimal-digits v h = ap (numeral (digitsWithin 20 v)) (mod-eq-of-lt (digits-suffice 20 v h))
 
+-- read as a number again it is v
+pub decimal-reads : (v : ℕ) → v < 10 ^ 20 → number (decimal v) ≡ v
+decimal-reads v h = number-numeral (digitsWithin 20 v) v (digits-suffice 20 v h)
+
 -- ---- counted by dividing
 
--- n digits of v have been counted, and for what is left the last of them and `places` - 1 more suffice
+-- n digits of v have been counted, and for what is left the last of them and `places` more suffice
 pub record Counting (v n left : ℕ) : Type 0 where
   pub places : ℕ
-  pub all : n + places ≡ 21
-  pub small : left < 10 ^ places
-  pub counted : n + digitsWithin places left ≡ 1 + digitsWithin 20 v
+  pub all : n + places ≡ 20
+  pub small : left < 10 ^ suc places
+  pub counted : n + digitsWithin (suc places) left ≡ 1 + digitsWithin 20 v
 
 pub count-start : (v : ℕ) → v < 10 ^ 20 → Counting v 1 v
-count-start v h = record { places = 20; all = refl; small = h; counted = refl }
+count-start v h = record { places = 19; all = refl; small = h; counted = refl }
 
 pub count-more : {v n left : ℕ} → Counting v n left → 10 ≤ left → Counting v (n + 1) (left / 10)
 count-more {v} {n} {left} s h = by (s .places) (s .all) (s .small) (s .counted)
   where
-    by : (k : ℕ) → n + k ≡ 21 → left < 10 ^ k → n + digitsWithin k left ≡ 1 + digitsWithin 20 v → Counting v (n + 1) (left / 10)
+    by : (k : ℕ) → n + k ≡ 20 → left < 10 ^ suc k → n + digitsWithin (suc k) left ≡ 1 + digitsWithin 20 v → Counting v (n + 1) (left / 10)
     by zero a l c = absurd (omega arith)
     by (suc k) a l c =
-        record { places = k; all = omega arith; small = tenth k left .1 l; counted = omega (arith, another-digit k left h) }
+        record { places = k; all = omega arith; small = tenth (suc k) left .1 l; counted = omega (arith, another-digit (suc k) left h) }
 
 pub count-end : {v n left : ℕ} → Counting v n left → left < 10 → n ≡ digitsWithin 20 v
 count-end {left = left} s h = omega (arith, s .counted, one-digit (s .places) left h)

@@ -13,7 +13,7 @@ use Rattle.listing.specs.Lines.{tab, lineEnd}
 use Rattle.pen.specs.Writing.{over, overIfRoom}
 use Rattle.pen.proofs.OverLaws.{over-room, over-length, over-first, over-next, over-more}
 use Rattle.reply.specs.Reply.{digitsWithin, decimal, refusalLine, fitting}
-use Rattle.reply.proofs.DecimalLaws.{decimal-digits, one-too-many}
+use Rattle.reply.proofs.DecimalLaws.{no-more, decimal-digits}
 
 -- ---- all of it, or nothing
 
@@ -22,7 +22,7 @@ module _ (room : ℕ) (bs : List ℕ) where
   unfolding fitting
   fits h = rw (le-leb (length bs) room h)
 
-  pub fits-not : room < length bs → fitting room bs ≡ []
+  fits-not : room < length bs → fitting room bs ≡ []
   unfolding fitting
   fits-not h = rw (lt-leb (length bs) room h)
 
@@ -76,9 +76,9 @@ pub line-length : (n p : ℕ) → length (refusalLine n p) ≡ digitsWithin 20 n
 line-length n p =
     pieces-length (decimal n) (decimal p) ∙ ap₂ (λ a b. a + b + 2) (numeral-length (digitsWithin 20 n) n) (numeral-length (digitsWithin 20 p) p)
 
--- whatever the numbers
-pub line-short : (n p : ℕ) → length (refusalLine n p) ≤ 44
-line-short n p = omega (arith, line-length n p, one-too-many 20 n, one-too-many 20 p)
+-- 20 digits, a tab, 20 digits, the line's end; whatever the numbers
+pub line-short : (n p : ℕ) → length (refusalLine n p) ≤ 42
+line-short n p = omega (arith, line-length n p, no-more 20 n, no-more 20 p)
 
 module _ (n p : ℕ) (old : List ℕ) where
   -- the output is too short

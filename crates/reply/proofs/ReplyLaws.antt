@@ -6,20 +6,13 @@ use mathlib.Core.Logic.{_≢_}
 use mathlib.Core.List.{List}
 use lib.ListN.{length}
 use borrow.Author.Tests.{le-leb, lt-leb}
-use Rattle.rules.specs.Values.{Document}
-use Rattle.rules.specs.Writing.{write}
 use Rattle.rules.specs.Answer.{filled}
-use Rattle.listing.specs.Composing.{made, denied, compose}
-use Rattle.listing.specs.Endings.{Ending, writes, refuses, composed, within, bytesOf}
+use Rattle.listing.specs.Endings.{Ending, writes, refuses, within, bytesOf}
 use Rattle.pen.specs.declared.Written.{Written}
 use Rattle.pen.specs.Writing.{writtenOf}
 use Rattle.pen.proofs.EndingLaws as call
-use Rattle.reply.specs.Reply.{refusalLine, printed, limited, fitting}
+use Rattle.reply.specs.Reply.{refusalLine, printed, limited, fitting, reply}
 use Rattle.reply.proofs.LineLaws.{Says, fits}
-
--- to an input, where the call would end so with room enough
-abbrev pub reply : ℕ → List ℕ → Ending → List ℕ
-reply room input e = fitting room (printed (limited input (within room e)))
 
 -- ---- what it is
 
@@ -68,14 +61,3 @@ module _ (input old : List ℕ) (e : Ending) where
         let g = call.roomy (length old) i l in
         says-of old (reply-written (length old) input e h i l)
         (ap (λ (y : Written). y .length) (told .0 ∙ ap writtenOf g), told .1 ∙ ap (λ x. filled (bytesOf x) old) g)
-
--- ---- how composing ends, with room enough
-
-module _ (l : List ℕ) where
-  pub made-ends : {d : Document} → compose l ≡ made d → composed (compose l) ≡ writes (write d)
-  unfolding composed
-  made-ends i = ap composed i
-
-  pub denied-ends : {n p : ℕ} → compose l ≡ denied n p → composed (compose l) ≡ refuses n p
-  unfolding composed
-  denied-ends i = ap composed i

@@ -10,9 +10,9 @@ use Rattle.listing.specs.Lines.{tab, lineEnd}
 use Rattle.listing.specs.Composing.{compose}
 use Rattle.listing.specs.Endings.{Ending, writes, refuses, listed, composed, within}
 
--- how many digits v has, where n suffice; 0 has one
+-- how many digits v has, where n suffice, and never more than n; 0 has one
 unfoldable pub digitsWithin : ℕ → ℕ → ℕ
-digitsWithin zero v = 1
+digitsWithin zero v = 0
 digitsWithin (suc n) v = cond (ltb v 10) 1 (suc (digitsWithin n (v / 10)))
 
 -- a number in decimal, with no zero ahead; for a number of 64 bits 20 digits suffice
@@ -34,10 +34,14 @@ limited input end = cond (leb (length input) 32768) end (refuses 20 32768)
 unfoldable pub fitting : ℕ → List ℕ → List ℕ
 fitting room bytes = cond (leb (length bytes) room) bytes []
 
--- what dtlist prints for an input, from an output of so much room
+-- the reply to an input, where the call would end so with room enough
+abbrev pub reply : ℕ → List ℕ → Ending → List ℕ
+reply room input end = fitting room (printed (limited input (within room end)))
+
+-- what dtlist prints for an input, with an output of so much room
 abbrev pub listReply : ℕ → List ℕ → List ℕ
-listReply room file = fitting room (printed (limited file (within room (listed (answer file)))))
+listReply room file = reply room file (listed (answer file))
 
 -- and what dtmake prints
 abbrev pub makeReply : ℕ → List ℕ → List ℕ
-makeReply room lines = fitting room (printed (limited lines (within room (composed (compose lines)))))
+makeReply room lines = reply room lines (composed (compose lines))

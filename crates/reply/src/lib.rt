@@ -5,10 +5,10 @@ ghost use Rattle.rules.specs.Answer.{filled};
 ghost use Rattle.reply.specs.Reply.{digitsWithin, refusalLine, fitting, listReply, makeReply};
 
 // The programs take at most so many bytes.
-pub const LONGEST: usize = 32768;
+const LONGEST: usize = 32768;
 
 // The number of a longer input, which the programs alone give.
-pub const TOO_LONG: u8 = 20;
+const TOO_LONG: u8 = 20;
 
 // How many digits v has in decimal.
 fn digits_in(v: u64) -> usize
@@ -24,7 +24,7 @@ fn digits_in(v: u64) -> usize
 }
 
 // The line of a refusal. It gives back how many bytes it wrote: all, or none where there is no room for all.
-pub fn refusal_line(number: u8, place: usize, out: &mut [u8]) -> usize
+fn refusal_line(number: u8, place: usize, out: &mut [u8]) -> usize
     ensures answer { λ r. ⌜ r ≡ length (fitting (length (now (out .entry))) (refusalLine number place)) ⌝ }
     ensures out { λ _. ⌜ now (out .exit) ≡ filled (fitting (length (now (out .entry))) (refusalLine number place)) (now (out .entry)) ⌝ }
 {

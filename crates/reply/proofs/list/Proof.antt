@@ -1,5 +1,6 @@
 -- reply::list meets its contract: an input too long and a refused file are answered by a line, any other by what the call has written.
 -- Assumes nothing.
+use native.Mathlib.Omega.{arith}
 use borrow.Author.Needs.{needs}
 use Rattle.rules.specs.Answer.{answer}
 use Rattle.listing.specs.Endings.{listed}
@@ -20,7 +21,7 @@ returns c =
     let l = c .before .before in
     let i = l .before .before in
     let a = i .before .before .before .args in
-    print-too-long (a .s .now) (a .out .now) (listed (answer (a .s .now))) (i .if1 .taken) (l .refusal-line .ensures)
+    print-too-long (a .s .now) (a .out .now) (listed (answer (a .s .now))) (omega (arith, i .if1 .taken)) (l .refusal-line .ensures)
 
 list-requires : tie.Need-list-requires
 list-requires c κs = search needs

@@ -4,8 +4,9 @@ use borrow.Author.Needs.{needs}
 use Rattle.listing.specs.Composing.{compose}
 use Rattle.listing.specs.Endings.{composed}
 use Rattle.listing.proofs.Rounds.{composes-exactly}
+use Rattle.composer.proofs.CallLaws.{made-ends}
 use Rattle.composer.proofs.Answers.{composes-exactly-where}
-use Rattle.reply.proofs.ReplyLaws.{print-too-long, print-refused, print-written, made-ends}
+use Rattle.reply.proofs.ReplyLaws.{print-too-long, print-refused, print-written}
 use Rattle.reply.proofs.make.Statement.{statement}
 use Rattle.reply.proofs.make.Tie as tie
 
@@ -49,7 +50,7 @@ returns-3 c =
     let i = w .before .before in
     let a = i .before .before .before .args in
     let x = composes-exactly-where (a .l .now) (a .out .now) _ _ (w .compose .ensures) .0 (c .if2 .left) in
-    let e = made-ends (a .l .now) (composes-exactly (a .l .now) (x .0) .1 (x .1, x .2)) in
+    let e = made-ends (composes-exactly (a .l .now) (x .0) .1 (x .1, x .2)) in
     print-written (a .l .now) (a .out .now) (composed (compose (a .l .now))) (i .if1 .left) (w .compose .ensures) e (x .3)
 
 pub make-spec : {M : Type 1} → statement M

@@ -15,7 +15,7 @@ long : (c : tie.After-digits-in2) → let a = c .before .before .before .args in
     c .before .digits-in .result + c .digits-in2 .result + 2 ≡ length (refusalLine (a .number) (a .place))
 long c = let a = c .before .before .before .args in omega (arith, line-length (a .number) (a .place), c .before .digits-in .ensures, c .digits-in2 .ensures)
 
-small : (c : tie.After-digits-in2) → c .before .digits-in .result + c .digits-in2 .result + 2 ≤ 44
+small : (c : tie.After-digits-in2) → c .before .digits-in .result + c .digits-in2 .result + 2 ≤ 42
 small c = let a = c .before .before .before .args in omega (arith, long c, line-short (a .number) (a .place))
 
 digits-in-requires : tie.Need-digits-in-requires

@@ -1,8 +1,9 @@
 -- dtprobe::requests::read_bytes meets its contract: what was read stands at the start of the buffer.
 -- Assumes nothing.
-use lib.ListN.{drop}
+use native.Mathlib.Omega.{arith}
+use lib.ListN.{drop, length-append}
 use borrow.Author.Needs.{needs}
-use Rattle.dtprobe.proofs.CountLaws.{counts, counts-ahead}
+use Rattle.io.proofs.Counting.{front, counts}
 use Rattle.dtprobe.proofs.requests.read_bytes.Statement.{statement}
 use Rattle.dtprobe.proofs.requests.read_bytes.Tie as tie
 
@@ -13,7 +14,7 @@ slice-relend-prefix-read-full : tie.Need-slice-relend-prefix-read-full
 slice-relend-prefix-read-full c = search needs
 
 slice-aggregate-read-full : tie.Need-slice-aggregate-read-full
-slice-aggregate-read-full c = counts _ _ (c .before .if1 .left) .1
+slice-aggregate-read-full c = front _ _ (c .before .if1 .left)
 
 read-full-requires : tie.Need-read-full-requires
 read-full-requires c κs = search needs
@@ -24,7 +25,8 @@ same-length c = search needs
 returns-2 : tie.Need-returns-2
 returns-2 c =
     let given = c .before .before .before .before .before .before .args in
-    counts-ahead _ (c .before .before .read-full .last .1 .0) (drop (given .n) (given .buf .now)) (c .before .before .read-full .ensures .0)
+    let read = c .before .before .read-full in
+    counts _ _ (omega (arith, read .ensures .0, length-append (read .last .1 .0) (drop (given .n) (given .buf .now))))
 
 pub read-bytes-spec : {M : Type 1} → statement M
 read-bytes-spec =

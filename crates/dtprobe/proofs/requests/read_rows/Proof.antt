@@ -5,7 +5,7 @@ use native.Mathlib.Omega.{arith}
 use mathlib.Core.Path.{_≡_, refl, _∙_}
 use lib.ListN.{length, length-set}
 use borrow.Author.Needs.{needs}
-use Rattle.dtprobe.proofs.CountLaws.{counts}
+use Rattle.io.proofs.Counting.{counts}
 use Rattle.dtprobe.proofs.requests.read_rows.Statement.{statement}
 use Rattle.dtprobe.proofs.requests.read_rows.Tie as tie
 
