@@ -9,7 +9,7 @@ use crate::requests::size_at;
 // The most rows of a column.
 const MOST_ROWS: usize = 256;
 
-pub fn check(head: &[u8; HEAD], input: &mut [u8]) -> bool {
+pub(crate) fn check(head: &[u8; HEAD], input: &mut [u8]) -> bool {
     let size = size_at(head, 0);
     let n = read_bytes(input, size);
     if n != size {
@@ -31,7 +31,7 @@ fn write_into(composes: bool, input: &[u8], out: &mut [u8]) {
     printing::written(printed, out);
 }
 
-pub fn write(head: &[u8; HEAD], composes: bool, input: &mut [u8], out: &mut [u8]) -> bool {
+pub(crate) fn write(head: &[u8; HEAD], composes: bool, input: &mut [u8], out: &mut [u8]) -> bool {
     let size = size_at(head, 0);
     let n = read_bytes(input, size);
     if n != size {
@@ -83,7 +83,7 @@ fn load_columns(head: &[u8; HEAD], s: &[u8]) -> bool {
     true
 }
 
-pub fn load(head: &[u8; HEAD], input: &mut [u8]) -> bool {
+pub(crate) fn load(head: &[u8; HEAD], input: &mut [u8]) -> bool {
     let size = size_at(head, 0);
     let n = read_bytes(input, size);
     if n != size {

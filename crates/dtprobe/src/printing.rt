@@ -13,7 +13,7 @@ fn line_end() {
 }
 
 // Number and place, the count, and the three totals.
-pub fn outcome(number: u8, place: usize, count: u64, sums: Sums) {
+pub(crate) fn outcome(number: u8, place: usize, count: u64, sums: Sums) {
     number_then(number as u64, b'\t');
     number_then(place as u64, b'\t');
     number_then(count, b'\t');
@@ -26,7 +26,7 @@ pub fn outcome(number: u8, place: usize, count: u64, sums: Sums) {
 }
 
 // Number and place, the length written; then the whole output.
-pub fn written(w: Written, out: &[u8]) {
+pub(crate) fn written(w: Written, out: &[u8]) {
     number_then(w.number as u64, b'\t');
     number_then(w.place as u64, b'\t');
     number_then(w.length as u64, b'\n');
@@ -35,7 +35,7 @@ pub fn written(w: Written, out: &[u8]) {
 }
 
 // Each row of a column, in one line.
-pub fn rows(column: &[u64]) {
+pub(crate) fn rows(column: &[u64]) {
     let mut i = 0;
     while i < column.len() {
         number_then(column[i], b' ');

@@ -4,7 +4,7 @@ use fields::Number;
 use libc::STDIN_FILENO;
 
 // The bytes of a head line.
-pub const HEAD: usize = 37;
+pub(crate) const HEAD: usize = 37;
 
 // How many numbers it has, where they begin, and how far they stand apart.
 const SIZES: usize = 5;
@@ -22,7 +22,7 @@ const NO_SIZE: usize = 1000000;
 const ROW: usize = 17;
 
 // Number i of a head line, from 0. Where there are no six digits it is more than any slice has.
-pub fn size_at(head: &[u8; HEAD], i: usize) -> usize {
+pub(crate) fn size_at(head: &[u8; HEAD], i: usize) -> usize {
     if i >= SIZES {
         return NO_SIZE;
     }
@@ -34,7 +34,7 @@ pub fn size_at(head: &[u8; HEAD], i: usize) -> usize {
 }
 
 // Whether the head line has its five numbers.
-pub fn has_sizes(head: &[u8; HEAD]) -> bool {
+pub(crate) fn has_sizes(head: &[u8; HEAD]) -> bool {
     (size_at(head, 0) < NO_SIZE)
         & (size_at(head, 1) < NO_SIZE)
         & (size_at(head, 2) < NO_SIZE)
@@ -43,7 +43,7 @@ pub fn has_sizes(head: &[u8; HEAD]) -> bool {
 }
 
 // Reads the next n bytes to the start of buf, and answers how many it has read: fewer than n where buf has no room for them or the input ends.
-pub fn read_bytes(buf: &mut [u8], n: usize) -> usize
+pub(crate) fn read_bytes(buf: &mut [u8], n: usize) -> usize
     ensures { λ r. ⌜ Counts r (now (buf .exit)) ⌝ }
 {
     if n > buf.len() {
@@ -63,7 +63,7 @@ fn row_of(digits: &[u8; ROW]) -> u64 {
 
 // Reads the next n rows to the start of a column, and answers how many it has read: fewer than n where the column has no room for them or the
 // input ends.
-pub fn read_rows(column: &mut [u64], n: usize) -> usize
+pub(crate) fn read_rows(column: &mut [u64], n: usize) -> usize
     ensures { λ r. ⌜ Counts r (now (column .exit)) ⌝ }
 {
     if n > column.len() {
