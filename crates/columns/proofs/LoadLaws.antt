@@ -36,6 +36,15 @@ abbrev pub Says : List ℕ → List ℕ → List ℕ → List ℕ → List ℕ �
 Says file c4 c5 c12 start r c4′ c5′ c12′ start′ =
     (r ≡ loadedOf (loading (c4 ∷ c5 ∷ c12 ∷ start ∷ []) (answer file))) × Filled (rows r file) c4 c5 c12 start c4′ c5′ c12′ start′
 
+-- the check accepts the file
+module _ (file : List ℕ) {c : Checked} (told : c ≡ checkedOf (outcome (answer file))) (zero : c .number ≡ 0) where
+  pub accepted-as : (d : Document) × (answer file ≡ accepted d)
+  accepted-as = accepted-exactly file .1 (zero-exactly file .0 (sym (ap (λ (x : Checked). x .number) told) ∙ zero))
+
+  pub count-is : c .count ≡ length (paymentsOf (answer file))
+  unfolding paymentsOf outcome
+  count-is = let e = accepted-as .1 in rw (told, e)
+
 module _ (file c4 c5 c12 start : List ℕ) where
   abbrev columns : List (List ℕ)
   columns = c4 ∷ c5 ∷ c12 ∷ start ∷ []
@@ -55,17 +64,10 @@ module _ (file c4 c5 c12 start : List ℕ) where
         by (refused z) i = refl
 
     module _ (zero : c .number ≡ 0) where
-      accepted-as : (d : Document) × (answer file ≡ accepted d)
-      accepted-as = accepted-exactly file .1 (zero-exactly file .0 (sym (ap (λ (x : Checked). x .number) told) ∙ zero))
-
-      pub count-is : c .count ≡ length (paymentsOf (answer file))
-      unfolding paymentsOf outcome
-      count-is = let e = accepted-as .1 in rw (told, e)
-
       -- with room for so many rows or not
       loaded-if : loading columns (answer file) ≡ ifRoom (room (c .count) columns) (outcome (answer file))
       unfolding paymentsOf loading
-      loaded-if = let e = accepted-as .1 in rw (count-is, e)
+      loaded-if = let e = accepted-as file told zero .1 in rw (count-is file told zero, e)
 
       -- a column is too short
       pub load-no-room : fourTested (c .count) c4 c5 c12 start ≡ false → Says file c4 c5 c12 start (loadedOf noRoom) c4 c5 c12 start
@@ -74,7 +76,7 @@ module _ (file c4 c5 c12 start : List ℕ) where
       -- all rows are written
       module _ (t : fourTested (c .count) c4 c5 c12 start ≡ true) where
         pub may-fill : (c .count ≡ length (paymentsOf (answer file))) × (room (c .count) columns ≡ true)
-        may-fill = (count-is, sym (room-of-four (c .count) c4 c5 c12 start) ∙ t)
+        may-fill = (count-is file told zero, sym (room-of-four (c .count) c4 c5 c12 start) ∙ t)
 
         pub load-full : {r : Loaded} → r ≡ loadedAs c → {c4′ c5′ c12′ start′ : List ℕ}
             → Filled (paymentsOf (answer file)) c4 c5 c12 start c4′ c5′ c12′ start′

@@ -51,7 +51,7 @@ module _ {f : List ℕ} {p : ℕ} {kind : List ℕ} (x : Payment) (l : LegalPaym
 
 module _ {kind : List ℕ} (x : Payment) (l : LegalPayment kind x) where
   -- the number of parts, from the length
-  parts-told : (lengthOf (length (x .parts)) - 187) / 29 ≡ length (x .parts)
+  pub parts-told : (lengthOf (length (x .parts)) - 187) / 29 ≡ length (x .parts)
   parts-told = ap (λ n. n / 29) (add-sub-cancel-left 187 (29 * length (x .parts)) ∙ mul-comm 29 (length (x .parts))) ∙ mul-div-cancel (length (x .parts)) (omega arith)
 
   -- the bytes that it takes, from what the length field tells

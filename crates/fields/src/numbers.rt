@@ -53,3 +53,6 @@ pub const NO_LINE: u8 = 17;
 
 // A listing ends with no line of A or of a payment.
 pub const ENDS_EARLY: u8 = 18;
+
+// The file is accepted, but it has no such payment, or the payment no such part.
+pub const NO_SUCH: u8 = 19;

@@ -1,0 +1,61 @@
+-- What the calls over a view give back: a stretch of the file itself, and number and place.
+use Prim.Native.Nat.{ℕ, _+_, _-_, _≤_}
+use mathlib.Core.Path.{_≡_}
+use mathlib.Core.Bool.{Bool, true, false}
+use mathlib.Core.List.{List}
+use lib.ListN.{length, take, drop}
+use lib.Dec.{eqb}
+use denote.Ref.{RefT, now}
+use Rattle.fields.specs.declared.Refusal.{Refusal}
+use Rattle.fields.specs.Answers.{refusalOf}
+use Rattle.view.specs.declared.Wanted.{Wanted}
+use Rattle.view.specs.declared.Spot.{Spot}
+use Rattle.view.specs.declared.Made.{Made}
+use Rattle.view.specs.declared.Handed.{Handed}
+use Rattle.view.specs.Spots.{findAt, locateAt}
+
+-- a stretch lies within the bytes
+abbrev pub Within : List ℕ → Spot → Type 0
+Within s r = (r .from ≤ r .to) × (r .to ≤ length s)
+
+-- r is the stretch of the slice s from a to e itself: the same memory, a bytes further on, and the bytes that stand there
+abbrev pub Stretch : RefT (List ℕ) → ℕ → ℕ → RefT (List ℕ) → Type 0
+Stretch s a e r = (now r ≡ take (e - a) (drop a (now s))) × (r .ptr .0 ≡ s .ptr .0) × (r .ptr .1 ≡ s .ptr .1 + a)
+
+-- making: the file up to the end of the spot, the start, number and place
+abbrev pub IsMade : RefT (List ℕ) → Spot → Made → Type 0
+IsMade s p r = Stretch s 0 (p .to) (r .view .file) × (r .view .start ≡ p .from) × (r .number ≡ p .number) × (r .place ≡ p .place)
+
+-- a hand-out: the stretch of the file at the spot, number and place
+abbrev pub IsHanded : RefT (List ℕ) → Spot → Handed → Type 0
+IsHanded s p r = Stretch s (p .from) (p .to) (r .text) × (r .number ≡ p .number) × (r .place ≡ p .place)
+
+-- ---- a view of payment n is made, and the text is handed out of it
+
+-- the bytes of the view: those of the file, or none where the making is refused
+abbrev pub bytesOf : List ℕ → ℕ → List ℕ
+bytesOf file n = take (findAt file n .to) file
+
+abbrev pub textAt : List ℕ → ℕ → Wanted → Spot
+textAt file n w = locateAt (bytesOf file n) (findAt file n .from) w
+
+-- r is that text, as a stretch of the file s itself
+abbrev pub IsText : RefT (List ℕ) → ℕ → Wanted → RefT (List ℕ) → Type 0
+IsText s n w r =
+    let p = textAt (now s) n w in
+    (now r ≡ take (p .to - p .from) (drop (p .from) (bytesOf (now s) n))) × (r .ptr .0 ≡ s .ptr .0) × (r .ptr .1 ≡ s .ptr .1 + p .from)
+
+-- the first refusal of two; 0 is none
+abbrev pub ifNone : Bool → Refusal → Refusal → Refusal
+ifNone true a b = b
+ifNone false a b = a
+
+unfoldable pub firstOf : ℕ → ℕ → ℕ → ℕ → Refusal
+firstOf number place number2 place2 = ifNone (eqb number 0) (refusalOf number place) (refusalOf number2 place2)
+
+-- the refusal of the making; where there is none, that of the hand-out
+abbrev pub refusalFor : List ℕ → ℕ → Wanted → Refusal
+refusalFor file n w =
+    let m = findAt file n in
+    let h = textAt file n w in
+    firstOf (m .number) (m .place) (h .number) (h .place)
