@@ -1,4 +1,4 @@
-"""The table of cases: the input of each row, and whether a program prints the row's answer."""
+"""The table of cases: the input of each row, and whether a program or a call gives the row's answer."""
 
 import re
 from collections.abc import Iterator
@@ -8,16 +8,21 @@ from pathlib import Path
 
 from .case_m import CASE_M
 from .document import Document, Part
-from .sides import Side
+from .expected import line
+from .layout import TEXT_WIDTH
+from .requests import NAME_OF_CALL, TEXT_OF_FIELD, VIEW, Request
+from .sides import PROGRAMS, Side
 
 ESCAPES = {"\\t": "\t", "\\n": "\n", "\\r": "\r", "\\s": " "}
+CALL_OF_NAME = {name: call for call, name in NAME_OF_CALL.items()}
+FIELD_OF_TEXT = {text: field for field, text in TEXT_OF_FIELD.items()}
 
 
 @dataclass(frozen=True)
 class Case:
     """A row of the table."""
 
-    program: str
+    call: str
     base: str
     changes: str
     answer: str
@@ -44,7 +49,8 @@ def document_of(base: str) -> Document:
             parts = tuple(Part(mark, payment.parts[0].text) for mark in repeated(marks))
             return replace(CASE_M, payments=(replace(payment, parts=parts),))
         case ["cents", *amounts]:
-            return replace(CASE_M, payments=tuple(replace(payment, cents=cents) for cents in repeated(amounts)))
+            payments = (replace(payment, cents=cents) for cents in repeated(amounts))
+            return replace(CASE_M, payments=tuple(payments))
         case ["payments", count]:
             short = replace(payment, name=b"A", sender_name=b"B", purpose=b"", parts=())
             return replace(CASE_M, payments=(short,) * int(count))
@@ -99,7 +105,42 @@ def literal(content: str) -> bytes:
 def is_met(case: Case, side: Side) -> bool:
     """Whether a side prints what the row says."""
     data = changed(unchanged(case.base, as_named=True), case.changes)
-    printed = side.printed(case.program, [data])
+    if case.call in PROGRAMS:
+        return side.printed(case.call, [data]) == printed_by_program(case)
+    request = request_of(case.call, data)
+    return side.printed("dtprobe", [request.wire()]) == answer_of_view(request.call, case.answer)
+
+
+def printed_by_program(case: Case) -> bytes:
     if case.answer == "accepted":
-        return printed == unchanged(case.base, as_named=False)
-    return printed == case.answer.replace(" ", "\t").encode() + b"\n"
+        return unchanged(case.base, as_named=False)
+    return line(*map(int, case.answer.split()))
+
+
+def request_of(call: str, data: bytes) -> Request:
+    """The request of a row about the view: `find 0`, `hand 128 C14a`, `view 0 part 1`."""
+    match call.split():
+        case ["find" as name, n]:
+            numbers = (int(n),)
+        case ["hand" | "view" as name, which, "part", part]:
+            numbers = (int(which), 0, int(part))
+        case ["hand" | "view" as name, which, text]:
+            numbers = (int(which), FIELD_OF_TEXT[text])
+        case _:
+            raise ValueError(f"no such call: {call}")
+    return Request(CALL_OF_NAME[name], data, numbers)
+
+
+def answer_of_view(call: bytes, answer: str) -> bytes:
+    """The answer as dtprobe prints it: `from 128 to 512`, `text MEIER KG` or a number and a place."""
+    match answer.split(maxsplit=1):
+        case ["text", text]:
+            return line(0, 0, TEXT_WIDTH) + literal(text).ljust(TEXT_WIDTH) + b"\n"
+        case ["from", borders]:
+            start, end = borders.split(" to ")
+            return line(0, 0, int(start), int(end))
+        case [number, place]:
+            figures = int(number), int(place), 0
+            return line(*figures) + b"\n" if call == VIEW else line(*figures, 0)
+        case _:
+            raise ValueError(f"no such answer: {answer}")

@@ -108,7 +108,7 @@ class Document:
     def cents(self) -> int:
         return sum(payment.cents for payment in self.payments)
 
-    @property
+    @cached_property
     def starts(self) -> list[int]:
         """The byte of the file where each payment begins."""
         ends = list(accumulate(map(len, self.file.records())))

@@ -1,9 +1,10 @@
 """The answers that the model itself gives for its documents: without them both sides could be wrong alike."""
 
-from .document import Document
+from .document import Document, payment_contents
 from .requests import Column
 
 TOO_SHORT = 16
+NOT_THERE = 19
 TOO_LONG = 20
 MOST_INPUT = 32_768
 MOST_OUTPUT = 65_536
@@ -41,6 +42,32 @@ def put_out(written: bytes, output: bytes) -> bytes:
     if len(output) < len(written):
         return line(TOO_SHORT, 0, 0) + output + b"\n"
     return line(0, 0, len(written)) + written + output[len(written):] + b"\n"
+
+
+def found(document: Document, n: int) -> bytes:
+    """The answer to find: the start of payment n, counted from 0, and the end of the file."""
+    if n >= len(document.payments):
+        return line(NOT_THERE, 0, 0, 0)
+    return line(0, 0, document.starts[n], len(document.file.data))
+
+
+def handed(document: Document, start: int, text: str) -> bytes:
+    """The answer to a hand-out: where the text of this name stands in the payment that begins there."""
+    if start in document.starts:
+        # The header is record 0.
+        record = document.starts.index(start) + 1
+        for field in document.file.fields:
+            if field.record == record and field.name == text:
+                return line(0, 0, field.place, field.end)
+    return line(NOT_THERE, 0, 0, 0)
+
+
+def viewed(document: Document, n: int, text: str) -> bytes:
+    """The answer to view: the text of this name out of payment n, all 27 bytes."""
+    contents = payment_contents(document.payments[n]) if n < len(document.payments) else {}
+    if text not in contents:
+        return line(NOT_THERE, 0, 0) + b"\n"
+    return line(0, 0, len(contents[text])) + contents[text] + b"\n"
 
 
 def printed(written: bytes) -> bytes:

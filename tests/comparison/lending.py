@@ -6,6 +6,7 @@ from random import Random
 from . import expected
 from .inputs import Form, Input
 from .requests import CHECK, COMPOSE, LIST, LOAD, MOST_BYTES, MOST_ROWS, ROW_WIDTH, Request, rows_of
+from .viewing import few_view_requests, view_requests
 
 COLUMNS = 4
 # One in so many damaged inputs is also sent to the calls that are meant for the other form.
@@ -68,9 +69,11 @@ def file_requests(rng: Random, given: Input) -> list[Request]:
     rooms = output_rooms(rng, len(given.base.listing.data))
     if given.valid:
         requests += [load_request(rng, given, room) for room in COLUMN_ROOMS]
-        return requests + [output_request(rng, given, LIST, room) for room in rooms]
+        requests += [output_request(rng, given, LIST, room) for room in rooms]
+        return requests + view_requests(rng, given)
     requests.append(load_request(rng, given, rng.choice(COLUMN_ROOMS)))
     requests.append(output_request(rng, given, LIST, rng.choice(rooms)))
+    requests += few_view_requests(rng, given)
     if rng.randrange(OTHER_FORM) == 0:
         requests.append(output_request(rng, given, COMPOSE, len(given.base.file.data)))
     return requests
@@ -85,6 +88,7 @@ def listing_requests(rng: Random, given: Input) -> list[Request]:
         requests.append(Request(CHECK, given.data))
         requests.append(load_request(rng, given, rng.choice(COLUMN_ROOMS)))
         requests.append(output_request(rng, given, LIST, len(given.base.listing.data)))
+        requests += few_view_requests(rng, given)
     return requests
 
 

@@ -3,14 +3,15 @@
 from collections import Counter
 from dataclasses import dataclass, field
 
-CALLS = ("check", "load", "list", "compose", "dtlist", "dtmake")
-# The numbers that generated inputs can reach. 6 takes ten million payments, nothing reaches 7 and 8, and 19
-# belongs to the view.
+CALLS = ("check", "load", "list", "compose", "find", "hand", "view", "dtlist", "dtmake")
+# The numbers that generated inputs can reach. 6 takes ten million payments, and nothing reaches 7 and 8.
 OF_FILE = (1, 2, 3, 4, 5, 9, 10, 11, 12, 13, 14, 15)
 OF_LISTING = (2, 3, 4, 9, 10, 11, 12, 13, 16, 17, 18)
+# Only the calls of the view are asked for a payment or a part, which may not be there.
+OF_VIEW = OF_FILE + (19,)
 REACHABLE = {
     "check": OF_FILE, "load": OF_FILE + (16,), "list": OF_FILE + (16,), "compose": OF_LISTING,
-    "dtlist": (20,), "dtmake": (16, 20),
+    "find": OF_VIEW, "hand": OF_VIEW, "view": OF_VIEW, "dtlist": (20,), "dtmake": (16, 20),
 }
 
 

@@ -3,17 +3,20 @@
 import sys
 import tempfile
 import unittest
-from dataclasses import replace
+from dataclasses import dataclass, replace
 from pathlib import Path
 
 from . import comparing
 from .case_m import CASE_M
+from .cases import Case, is_met, request_of
 from .comparing import Asked, FamilyComparison, Settings
 from .inputs import Form, Input, valid_input
-from .requests import CHECK, COMPOSE, LIST, LOAD, Request
+from .requests import CHECK, COMPOSE, FIND, HAND, HIGHEST, LIST, LOAD, VIEW, Request
 from .sides import Side
 from .tally import REACHABLE, Tally, missing_numbers
+from .viewing import find_request, hand_request, view_request
 
+FILE_OF_M = valid_input("valid", Form.FILE, CASE_M)
 ANSWER_OF_M = b"0\t0\t1\t7654321\t30050020\t12345\n"
 REFUSED = b"1\t0\t0\t0\t0\t0\n"
 
@@ -23,6 +26,16 @@ def printing(printed: bytes, status: int = 0) -> Side:
     code = f"import sys; sys.stdin.buffer.read(); sys.stdout.buffer.write({printed!r}); sys.exit({status})"
     words = [sys.executable, "-c", code]
     return Side({program: words for program in ("dtprobe", "dtlist", "dtmake")})
+
+
+@dataclass(frozen=True)
+class Prepared(Side):
+    """A side that has printed this before it is fed: no program is started, which takes its time."""
+
+    answer: bytes = b""
+
+    def printed(self, program: str, pieces: list[bytes]) -> bytes:
+        return self.answer
 
 
 def checks(*answers: bytes | None) -> list[Asked]:
@@ -85,17 +98,60 @@ class TestComparing(unittest.TestCase):
         return bool(family.failed)
 
     def test_what_a_program_prints_is_compared(self) -> None:
-        valid = valid_input("valid", Form.FILE, CASE_M)
         listing = CASE_M.listing.data
-        self.assertFalse(self.program_failed(valid, listing, listing))
-        self.assertTrue(self.program_failed(valid, listing, listing[:-1]))
-        self.assertTrue(self.program_failed(valid, b"1\t0\n", b"1\t0\n"))
+        self.assertFalse(self.program_failed(FILE_OF_M, listing, listing))
+        self.assertTrue(self.program_failed(FILE_OF_M, listing, listing[:-1]))
+        self.assertTrue(self.program_failed(FILE_OF_M, b"1\t0\n", b"1\t0\n"))
 
     def test_equal_crashes_of_a_program_do_not_pass(self) -> None:
-        damaged = replace(valid_input("damaged", Form.FILE, CASE_M), valid=False)
+        damaged = replace(FILE_OF_M, valid=False)
         self.assertFalse(self.program_failed(damaged, b"1\t0\n", b"1\t0\n"))
         self.assertTrue(self.program_failed(damaged, b"killed\n", b"killed\n"))
         self.assertTrue(self.program_failed(damaged, b"", b""))
+
+
+    def view_failed(self, request: Request, ours: bytes, second: bytes) -> bool:
+        family = self.family(Prepared({}, ours), Prepared({}, second))
+        family.compare_batch([Asked(0, FILE_OF_M, [request])])
+        return bool(family.failed)
+
+    def only_passes(self, request: Request, right: bytes, *wrong: bytes) -> None:
+        """What is right passes; what is wrong is noticed by the model, and without it by the other side."""
+        self.assertFalse(self.view_failed(request, right, right))
+        unknown = replace(request, expected=None)
+        for printed in wrong:
+            self.assertTrue(self.view_failed(request, printed, printed), printed)
+            self.assertTrue(self.view_failed(unknown, printed, right), printed)
+            self.assertTrue(self.view_failed(unknown, right, printed), printed)
+
+    def test_a_wrong_view_is_noticed(self) -> None:
+        right, not_there = b"0\t0\t128\t512\n", b"19\t0\t0\t0\n"
+        beside, cut = b"0\t0\t127\t512\n", b"0\t0\t128\t384\n"
+        self.only_passes(find_request(FILE_OF_M, 0), right, beside, cut, not_there)
+        of_e, not_empty = b"0\t0\t384\t512\n", b"19\t0\t0\t512\n"
+        for n in (1, HIGHEST):
+            self.only_passes(find_request(FILE_OF_M, n), not_there, right, of_e, not_empty)
+
+    def test_a_wrong_hand_out_is_noticed(self) -> None:
+        right, not_there = b"0\t0\t221\t248\n", b"19\t0\t0\t0\n"
+        neighbour, short = b"0\t0\t256\t283\n", b"0\t0\t221\t247\n"
+        self.only_passes(hand_request(FILE_OF_M, 128, (14, 0)), right, neighbour, short, not_there)
+        for start in (0, 127, 129, 256, 384, 512, HIGHEST):
+            moved = b"0\t0\t%d\t%d\n" % (start + 93, start + 120)
+            elsewhere = b"19\t%d\t0\t0\n" % (start + 1)
+            self.only_passes(hand_request(FILE_OF_M, start, (14, 0)), not_there, right, moved, elsewhere)
+        for part in (0, 2, HIGHEST):
+            self.only_passes(hand_request(FILE_OF_M, 128, (0, part)), not_there, b"0\t0\t317\t344\n")
+
+    def test_a_wrong_text_is_noticed(self) -> None:
+        right, not_there = b"0\t0\t27\n" + b"MEIER KG".ljust(27) + b"\n", b"19\t0\t0\n\n"
+        neighbour, short = right.replace(b"MEIER KG   ", b"MUSTER GMBH"), right.replace(b" \n", b"\n")
+        wrong = (neighbour, short, short.replace(b"27", b"26"), b"0\t0\t8\nMEIER KG\n", not_there)
+        self.only_passes(view_request(FILE_OF_M, 0, (14, 0)), right, *wrong)
+        for n in (1, 128, HIGHEST):
+            self.only_passes(view_request(FILE_OF_M, n, (14, 0)), not_there, right)
+        for part in (0, 2, 16, HIGHEST):
+            self.only_passes(view_request(FILE_OF_M, 0, (0, part)), not_there, right)
 
 
 class TestAnswers(unittest.TestCase):
@@ -107,6 +163,10 @@ class TestAnswers(unittest.TestCase):
             Request(LOAD, b""): b"1\t0\t0\t0\t0\t0\n7 \n\n\n8 9 \n",
             Request(LIST, b"", (3,), b"\n\n."): b"1\t0\t0\n\n\n.\n",
             Request(COMPOSE, b""): b"18\t0\t0\n\n",
+            Request(FIND, b""): b"0\t0\t128\t512\n",
+            Request(HAND, b""): b"19\t0\t0\t0\n",
+            Request(VIEW, b""): b"0\t0\t27\n" + b"MEIER KG".ljust(27) + b"\n",
+            Request(VIEW, b"", (1,)): b"19\t0\t0\n\n",
         }
         for request, answer in ends.items():
             self.assertEqual(request.answer_end(b"??" + answer + b"1\t0", 2), 2 + len(answer))
@@ -119,3 +179,43 @@ class TestAnswers(unittest.TestCase):
         self.assertEqual(missing_numbers(tally), [])
         del tally.met["compose", 18]
         self.assertEqual(missing_numbers(tally), [("compose", 18)])
+        del tally.met["find", 9], tally.met["hand", 15], tally.met["view", 19]
+        missing = [("compose", 18), ("find", 9), ("hand", 15), ("view", 19)]
+        self.assertEqual(missing_numbers(tally), missing)
+
+
+class TestCases(unittest.TestCase):
+    """Rows of the table about the view: what they ask for, and which answer meets them."""
+
+    def is_met(self, call: str, answer: str, printed: bytes) -> bool:
+        return is_met(Case(call, "file", "", answer, ""), Prepared({}, printed))
+
+    def test_places(self) -> None:
+        self.assertTrue(self.is_met("find 0", "from 128 to 512", b"0\t0\t128\t512\n"))
+        self.assertTrue(self.is_met("hand 128 C14a", "from 221 to 248", b"0\t0\t221\t248\n"))
+        self.assertFalse(self.is_met("hand 128 C14a", "from 221 to 248", b"0\t0\t221\t247\n"))
+
+    def test_texts(self) -> None:
+        text = b"0\t0\t27\n" + b"KUNDE 4".ljust(27) + b"\n"
+        self.assertTrue(self.is_met("view 0 part 1", "text KUNDE 4", text))
+        self.assertFalse(self.is_met("view 0 part 1", "text KUNDE 5", text))
+        self.assertFalse(self.is_met("view 0 part 1", "text KUNDE 4", b"0\t0\t7\nKUNDE 4\n"))
+        blanks = b"0\t0\t27\n" + b" " * 27 + b"\n"
+        self.assertTrue(self.is_met("view 0 C16", "text \\s", blanks))
+        self.assertFalse(self.is_met("view 0 C16", "text \\s", blanks.replace(b"27", b"0")))
+
+    def test_refusals(self) -> None:
+        self.assertTrue(self.is_met("find 1", "19 0", b"19\t0\t0\t0\n"))
+        self.assertTrue(self.is_met("hand 127 C15", "19 0", b"19\t0\t0\t0\n"))
+        self.assertTrue(self.is_met("view 0 part 2", "19 0", b"19\t0\t0\n\n"))
+        for printed in (b"19\t0\n", b"19\t0\t0\n\n", b"19\t0\t0\t512\n", b"0\t0\t128\t512\n"):
+            self.assertFalse(self.is_met("find 1", "19 0", printed), printed)
+
+    def test_what_a_row_asks_for(self) -> None:
+        asked = {
+            "find 7": b"F 000002 000007 000000 000000 000000\n..",
+            "hand 128 C15": b"H 000002 000128 000015 000000 000000\n..",
+            "view 0 part 16": b"V 000002 000000 000000 000016 000000\n..",
+        }
+        for call, wire in asked.items():
+            self.assertEqual(request_of(call, b"..").wire(), wire)

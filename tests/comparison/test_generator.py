@@ -1,16 +1,23 @@
 """Tests of the generator itself: the model of case M, the orders of marks, the same inputs for a seed."""
 
 import unittest
+from collections import Counter
+from dataclasses import replace
 from itertools import islice
 from random import Random
 
 from . import expected
 from .case_m import CASE_M
-from .families import FIRST_FAMILIES, family
-from .inputs import Form
-from .layout import TEXT_SIGNS, length_of_payment, payment_fields, width_of
+from .document import Document
+from .families import FIRST_FAMILIES, family, valid_shapes
+from .inputs import Form, Input, valid_input
+from .layout import TEXT_SIGNS, length_of_payment, payment_fields, text_name, width_of
 from .lending import requests_for
-from .shapes import MARK_ORDERS
+from .requests import (
+    CHECK, FIND, HAND, HIGHEST, NAME_OF_CALL, TEXT_OF_FIELD, VIEW, Request, asked_text,
+)
+from .shapes import MARK_ORDERS, document_of
+from .viewing import find_request, hand_request, view_request
 
 # The listing that the requirements print, and the file that it stands for.
 LISTING_OF_M = (
@@ -33,6 +40,12 @@ LENGTHS_AND_WIDTHS = (
     (0, 187, 256), (2, 245, 256), (3, 274, 384), (6, 361, 384), (7, 390, 512), (10, 477, 512), (11, 506, 640),
     (14, 593, 640), (15, 622, 768),
 )
+# Where C14a, C15 and C16 and the marks of the parts stand in a payment; a mark's text is two bytes behind it.
+PLACES_OF_NAMED = {"C14a": 93, "C15": 128, "C16": 155}
+PLACES_OF_MARKS = (187, 216, 256, 285, 314, 343, 384, 413, 442, 471, 512, 541, 570, 599, 640)
+# Each kind of request about the view is made at least so often for the valid shapes.
+OFTEN = 20
+FILE_INPUT = valid_input("valid", Form.FILE, CASE_M)
 
 
 class TestModel(unittest.TestCase):
@@ -59,6 +72,41 @@ class TestModel(unittest.TestCase):
         self.assertEqual(expected.loaded(CASE_M, columns), b"0\t0\t1\t7654321\t30050020\t12345\n" + rows)
         too_short = [(1,), (2,), (), (3,)]
         self.assertEqual(expected.loaded(CASE_M, too_short), b"16\t0\t0\t0\t0\t0\n1 \n2 \n\n3 \n")
+
+    def test_view_of_case_m(self) -> None:
+        not_there = b"19\t0\t0\t0\n"
+        self.assertEqual(expected.found(CASE_M, 0), b"0\t0\t128\t512\n")
+        for n in (1, 2, HIGHEST):
+            self.assertEqual(expected.found(CASE_M, n), not_there)
+        texts = {
+            "C14a": (221, b"MEIER KG"), "C15": (256, b"MUSTER GMBH"), "C16": (283, b"RECHNUNG 17"),
+            "text 1": (317, b"KUNDE 4"),
+        }
+        for name, (place, text) in texts.items():
+            self.assertEqual(expected.handed(CASE_M, 128, name), b"0\t0\t%d\t%d\n" % (place, place + 27))
+            self.assertEqual(expected.viewed(CASE_M, 0, name), b"0\t0\t27\n%b\n" % text.ljust(27))
+            self.assertEqual(expected.viewed(CASE_M, 1, name), b"19\t0\t0\n\n")
+            for start in (0, 127, 129, 256, 384, 512, 513, HIGHEST):
+                self.assertEqual(expected.handed(CASE_M, start, name), not_there)
+        for part in (0, 2, 15, 16, HIGHEST):
+            self.assertEqual(expected.handed(CASE_M, 128, text_name(part)), not_there)
+            self.assertEqual(expected.viewed(CASE_M, 0, text_name(part)), b"19\t0\t0\n\n")
+
+    def test_places_of_texts(self) -> None:
+        places = PLACES_OF_NAMED | {text_name(part): mark + 2 for part, mark in enumerate(PLACES_OF_MARKS, 1)}
+        document = document_of(Random(3), b"GK", list(MARK_ORDERS))
+        for number, (payment, start) in enumerate(zip(document.payments, document.starts, strict=True)):
+            for name, place in islice(places.items(), 3 + len(payment.parts)):
+                borders = (start + place, start + place + 27)
+                text = document.file.data[slice(*borders)]
+                self.assertEqual(expected.handed(document, start, name), b"0\t0\t%d\t%d\n" % borders)
+                self.assertEqual(expected.viewed(document, number, name), b"0\t0\t27\n%b\n" % text)
+            beyond = text_name(len(payment.parts) + 1)
+            self.assertEqual(expected.handed(document, start, beyond), b"19\t0\t0\t0\n")
+
+    def test_fields_that_are_asked_for(self) -> None:
+        self.assertEqual([asked_text(field, 7) for field in (14, 15, 16)], ["C14a", "C15", "C16"])
+        self.assertEqual({asked_text(field, 7) for field in (0, 13, 17, 114, HIGHEST)}, {"text 7"})
 
     def test_lengths_of_payments(self) -> None:
         for parts, length, width in LENGTHS_AND_WIDTHS:
@@ -96,9 +144,111 @@ class TestFamilies(unittest.TestCase):
         self.assertNotEqual(list(family(7, number)), list(family(8, number)))
 
     def test_same_requests_for_a_seed(self) -> None:
-        for given in islice(family(7, len(FIRST_FAMILIES) + 1), 50):
-            self.assertEqual(requests_for(Random(1), given), requests_for(Random(1), given))
+        for number in (0, 1):
+            for given in islice(family(7, len(FIRST_FAMILIES) + number), 50):
+                self.assertEqual(requests_for(Random(1), given), requests_for(Random(1), given))
 
     def test_both_forms(self) -> None:
         forms = [{given.form for given in family(7, len(FIRST_FAMILIES) + number)} for number in (0, 1)]
         self.assertEqual(forms, [{Form.FILE}, {Form.LISTING}])
+
+
+CALLS_OF_VIEW = (FIND, HAND, VIEW)
+# What may be asked for. Where two of them are the same, the dictionaries below name the one that comes later.
+NUMBERS = ("the first", "the last", "another", "the count", "the count and one", "the highest")
+STARTS = (
+    "the first", "the last", "another", "a byte before", "a byte behind", "a later section", "inside", "of A",
+    "of E", "the end", "beyond the end", "the highest",
+)
+PARTS = ("0", "the first", "the last", "another", "one more", "15", "16", "the highest")
+
+
+def kind_of_number(document: Document, n: int) -> str:
+    count = len(document.payments)
+    kinds = {
+        count - 1: "the last", 0: "the first", count: "the count", count + 1: "the count and one",
+        HIGHEST: "the highest",
+    }
+    return kinds.get(n, "another")
+
+
+def kind_of_start(document: Document, start: int) -> str:
+    starts, end = document.starts, len(document.file.data)
+    kinds = {place - 1: "a byte before" for place in starts}
+    kinds |= {place + 1: "a byte behind" for place in starts} | dict.fromkeys(starts, "another")
+    kinds |= {starts[-1]: "the last", starts[0]: "the first"}
+    kinds |= {0: "of A", end - 128: "of E", end: "the end", HIGHEST: "the highest"}
+    if start not in kinds and start < end:
+        return "inside" if start % 128 else "a later section"
+    return kinds.get(start, "beyond the end")
+
+
+def kind_of_part(most: int, part: int) -> str:
+    kinds = {15: "15", 16: "16", 1: "the first", most: "the last", most + 1: "one more", 0: "0"}
+    return (kinds | {HIGHEST: "the highest"}).get(part, "another")
+
+
+def kinds_of(document: Document, request: Request) -> list[str]:
+    """What a request about the view asks for; a text only where its payment is there."""
+    which, field, part, _ = request.numbers
+    call = NAME_OF_CALL[request.call]
+    kind_of = kind_of_start if request.call == HAND else kind_of_number
+    numbers = document.starts if request.call == HAND else range(len(document.payments))
+    kinds = [f"{call}: {kind_of(document, which)}"]
+    if request.call != FIND and which in numbers:
+        most = len(document.payments[numbers.index(which)].parts)
+        kinds.append(f"{call} {TEXT_OF_FIELD.get(field) or f'part: {kind_of_part(most, part)}'}")
+    return kinds
+
+
+def view_requests_for(given: Input) -> list[Request]:
+    return [request for request in requests_for(Random(5), given) if request.call in CALLS_OF_VIEW]
+
+
+class TestViewRequests(unittest.TestCase):
+    """What is asked about the view: all that is there, and all that is not."""
+
+    def test_every_kind_is_asked_for_often(self) -> None:
+        rng = Random(4)
+        files = [given for given in valid_shapes(rng) if given.form is Form.FILE]
+        asked = ((given.base, request) for given in files for request in requests_for(rng, given))
+        of_view = ((base, request) for base, request in asked if request.call in CALLS_OF_VIEW)
+        met = Counter(kind for base, request in of_view for kind in kinds_of(base, request))
+        wanted = {f"{call}: {kind}" for call in ("find", "view") for kind in NUMBERS}
+        wanted |= {f"hand: {kind}" for kind in STARTS}
+        wanted |= {f"{call} {text}" for call in ("hand", "view") for text in TEXT_OF_FIELD.values()}
+        wanted |= {f"{call} part: {kind}" for call in ("hand", "view") for kind in PARTS}
+        self.assertEqual(set(met), wanted)
+        self.assertGreaterEqual(min(met.values()), OFTEN)
+
+    def test_the_model_answers_for_valid_files(self) -> None:
+        given = valid_input("valid", Form.FILE, document_of(Random(6), b"LB", list(MARK_ORDERS[:9])))
+        requests = view_requests_for(given)
+        self.assertEqual({request.call for request in requests}, set(CALLS_OF_VIEW))
+        answers = [request.expected or b"" for request in requests]
+        accepted = sum(answer.startswith(b"0\t0\t") for answer in answers)
+        refused = sum(answer.startswith(b"19\t0\t0") for answer in answers)
+        self.assertEqual(accepted + refused, len(answers))
+        self.assertGreater(min(accepted, refused), len(answers) // 5)
+
+    def test_damaged_files_are_asked_once_by_each_call(self) -> None:
+        requests = view_requests_for(replace(FILE_INPUT, valid=False))
+        self.assertEqual(tuple(request.call for request in requests), CALLS_OF_VIEW)
+        self.assertEqual({request.expected for request in requests}, {None})
+
+    def test_listings_are_asked_now_and_then(self) -> None:
+        rng = Random(8)
+        listings = islice(family(7, len(FIRST_FAMILIES) + 1), 400)
+        calls = Counter(request.call for given in listings for request in requests_for(rng, given))
+        self.assertEqual({calls[call] for call in CALLS_OF_VIEW}, {calls[CHECK]})
+        self.assertIn(calls[CHECK], range(20, 100))
+
+    def test_numbers_on_the_wire(self) -> None:
+        given = replace(FILE_INPUT, data=b"0128A")
+        wires = {
+            find_request(given, 7): b"F 000005 000007 999999 999999 999999\n0128A",
+            hand_request(given, 128, (14, 0)): b"H 000005 000128 000014 000000 999999\n0128A",
+            view_request(given, HIGHEST, (0, 16)): b"V 000005 999999 000000 000016 999999\n0128A",
+        }
+        for request, wire in wires.items():
+            self.assertEqual(request.wire(), wire)

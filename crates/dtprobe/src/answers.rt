@@ -1,48 +1,19 @@
-// One function for each kind of request: it reads what the head line announces, makes the call and prints its answer. Each answers whether the
-// request was whole and within its limits.
+// The call that a request asks for: one function for each, which reads what is lent beside the input, makes the call and prints its answer.
 use crate::printing;
 use crate::requests::HEAD;
+use crate::requests::index_at;
 use crate::requests::read_bytes;
 use crate::requests::read_rows;
 use crate::requests::size_at;
+use crate::requests::wanted;
+use view::Wanted;
 
 // The most rows of a column.
 const MOST_ROWS: usize = 256;
 
-pub(crate) fn check(head: &[u8; HEAD], input: &mut [u8]) -> bool {
-    let size = size_at(head, 0);
-    let n = read_bytes(input, size);
-    if n != size {
-        return false;
-    }
-    let r = checker::check(&input[..n]);
+fn check(input: &[u8]) -> bool {
+    let r = checker::check(input);
     printing::outcome(r.number, r.place, r.count, r.sums);
-    true
-}
-
-// Lists or composes into an output of just that length.
-fn write_into(composes: bool, input: &[u8], out: &mut [u8]) {
-    if composes {
-        let made = composer::compose(input, out);
-        printing::written(made, out);
-        return;
-    }
-    let printed = lister::list(input, out);
-    printing::written(printed, out);
-}
-
-pub(crate) fn write(head: &[u8; HEAD], composes: bool, input: &mut [u8], out: &mut [u8]) -> bool {
-    let size = size_at(head, 0);
-    let n = read_bytes(input, size);
-    if n != size {
-        return false;
-    }
-    let room = size_at(head, 1);
-    let m = read_bytes(out, room);
-    if m != room {
-        return false;
-    }
-    write_into(composes, &input[..n], &mut out[..m]);
     true
 }
 
@@ -56,8 +27,7 @@ fn load_into(s: &[u8], c4: &mut [u64], c5: &mut [u64], c12: &mut [u64], start: &
     printing::rows(start);
 }
 
-// Reads the columns that the head line announces, and loads into them.
-fn load_columns(head: &[u8; HEAD], s: &[u8]) -> bool {
+fn load(head: &[u8; HEAD], input: &[u8]) -> bool {
     let mut c4 = [0u64; MOST_ROWS];
     let mut c5 = [0u64; MOST_ROWS];
     let mut c12 = [0u64; MOST_ROWS];
@@ -74,7 +44,7 @@ fn load_columns(head: &[u8; HEAD], s: &[u8]) -> bool {
         return false;
     }
     load_into(
-        s,
+        input,
         &mut c4[..a],
         &mut c5[..b],
         &mut c12[..c],
@@ -83,11 +53,72 @@ fn load_columns(head: &[u8; HEAD], s: &[u8]) -> bool {
     true
 }
 
-pub(crate) fn load(head: &[u8; HEAD], input: &mut [u8]) -> bool {
-    let size = size_at(head, 0);
-    let n = read_bytes(input, size);
-    if n != size {
+// Where a payment stands.
+fn find(head: &[u8; HEAD], input: &[u8]) -> bool {
+    let spot = view::find(input, index_at(head, 1));
+    printing::spot(spot);
+    true
+}
+
+// Where a text stands of the payment that begins at a start.
+fn hand(head: &[u8; HEAD], input: &[u8]) -> bool {
+    let spot = view::locate(input, index_at(head, 1), wanted(head));
+    printing::spot(spot);
+    true
+}
+
+// A view of a payment is made, and a text handed out of it.
+fn view_of(n: usize, w: Wanted, input: &[u8]) -> bool {
+    let why = view::refusal_of(input, n, w);
+    let text = view::text_of(input, n, w);
+    printing::text(why, text);
+    true
+}
+
+// Lists or composes into an output of just that length.
+fn write_into(composes: bool, input: &[u8], out: &mut [u8]) {
+    if composes {
+        let made = composer::compose(input, out);
+        printing::written(made, out);
+        return;
+    }
+    let printed = lister::list(input, out);
+    printing::written(printed, out);
+}
+
+fn write(head: &[u8; HEAD], composes: bool, input: &[u8], out: &mut [u8]) -> bool {
+    let room = size_at(head, 1);
+    let m = read_bytes(out, room);
+    if m != room {
         return false;
     }
-    load_columns(head, &input[..n])
+    write_into(composes, input, &mut out[..m]);
+    true
+}
+
+// Makes the call that the head line names, and answers whether it names one and what is lent was whole and within its limits.
+pub(crate) fn call(head: &[u8; HEAD], input: &[u8], out: &mut [u8]) -> bool {
+    let letter = head[0];
+    if letter == b'C' {
+        return check(input);
+    }
+    if letter == b'L' {
+        return load(head, input);
+    }
+    if letter == b'F' {
+        return find(head, input);
+    }
+    if letter == b'H' {
+        return hand(head, input);
+    }
+    if letter == b'V' {
+        return view_of(index_at(head, 1), wanted(head), input);
+    }
+    if letter == b'P' {
+        return write(head, false, input, out);
+    }
+    if letter == b'M' {
+        return write(head, true, input, out);
+    }
+    false
 }

@@ -8,25 +8,17 @@ mod answers;
 mod printing;
 mod requests;
 
-// Makes the call that the head line names, and answers whether the request was whole and within its limits.
+// Reads the input that the head line announces and makes the call on it. Answers whether the request was whole and within its limits.
 fn answer(head: &[u8; HEAD], input: &mut [u8], out: &mut [u8]) -> bool {
     if !requests::has_sizes(head) {
         return false;
     }
-    let call = head[0];
-    if call == b'C' {
-        return answers::check(head, input);
+    let size = requests::size_at(head, 0);
+    let n = requests::read_bytes(input, size);
+    if n != size {
+        return false;
     }
-    if call == b'L' {
-        return answers::load(head, input);
-    }
-    if call == b'P' {
-        return answers::write(head, false, input, out);
-    }
-    if call == b'M' {
-        return answers::write(head, true, input, out);
-    }
-    false
+    answers::call(head, &input[..n], out)
 }
 
 // Says that a request is none, and answers that there is no going on.

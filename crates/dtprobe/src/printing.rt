@@ -1,7 +1,9 @@
 // Printing an answer: lines of numbers, and what a lent slice holds.
+use fields::Refusal;
 use libc::STDOUT_FILENO;
 use pen::Written;
 use sums::Sums;
+use view::Spot;
 
 fn number_then(n: u64, mark: u8) {
     io::print_decimal(STDOUT_FILENO, n);
@@ -41,5 +43,22 @@ pub(crate) fn rows(column: &[u64]) {
         number_then(column[i], b' ');
         i += 1;
     }
+    line_end();
+}
+
+// Number and place, and where a stretch of the file begins and ends.
+pub(crate) fn spot(s: Spot) {
+    number_then(s.number as u64, b'\t');
+    number_then(s.place as u64, b'\t');
+    number_then(s.from as u64, b'\t');
+    number_then(s.to as u64, b'\n');
+}
+
+// Number and place, the length of a text; then the text.
+pub(crate) fn text(why: Refusal, t: &[u8]) {
+    number_then(why.number as u64, b'\t');
+    number_then(why.place as u64, b'\t');
+    number_then(t.len() as u64, b'\n');
+    io::write_all(STDOUT_FILENO, t);
     line_end();
 }

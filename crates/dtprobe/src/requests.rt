@@ -2,6 +2,7 @@
 ghost use Rattle.io.specs.Counts.{Counts};
 use fields::Number;
 use libc::STDIN_FILENO;
+use view::Wanted;
 
 // The bytes of a head line.
 pub(crate) const HEAD: usize = 37;
@@ -17,6 +18,9 @@ const SIZE_DIGITS: usize = 6;
 
 // More than any slice has.
 const NO_SIZE: usize = 1000000;
+
+// The largest number of six digits.
+const LARGEST: usize = 999999;
 
 // The digits of a row.
 const ROW: usize = 17;
@@ -40,6 +44,30 @@ pub(crate) fn has_sizes(head: &[u8; HEAD]) -> bool {
         & (size_at(head, 2) < NO_SIZE)
         & (size_at(head, 3) < NO_SIZE)
         & (size_at(head, 4) < NO_SIZE)
+}
+
+// Number i of a head line that is no length: the largest there is stands for the largest of all.
+pub(crate) fn index_at(head: &[u8; HEAD], i: usize) -> usize {
+    let n = size_at(head, i);
+    if n == LARGEST {
+        return usize::MAX;
+    }
+    n
+}
+
+// Which text the head line names: a field by its number, else a part.
+pub(crate) fn wanted(head: &[u8; HEAD]) -> Wanted {
+    let field = size_at(head, 2);
+    if field == 14 {
+        return Wanted::C14a;
+    }
+    if field == 15 {
+        return Wanted::C15;
+    }
+    if field == 16 {
+        return Wanted::C16;
+    }
+    Wanted::Part(index_at(head, 3))
 }
 
 // Reads the next n bytes to the start of buf, and answers how many it has read: fewer than n where buf has no room for them or the input ends.

@@ -1,5 +1,5 @@
 -- Worked views: the payment of case M, one of three parts with a second payment behind it, and what is refused.
-use Prim.Native.Nat.{ℕ, _+_, _-_}
+use Prim.Native.Nat.{ℕ, _-_}
 use mathlib.Core.Path.{_≡_, refl}
 use mathlib.Core.List.{List, [], _∷_, map}
 use lib.ListN.{take, drop}

@@ -1,7 +1,8 @@
 //! The cases of the requirements on both sides of a line, and damage at every byte.
 
 use crate::check::check;
-use crate::samples::{self, changed, m, verdict, Sample};
+use crate::refusal::verdict;
+use crate::samples::{self, changed, m, Sample, MARKS};
 use crate::totals::Totals;
 
 /// Where the fields of M begin, and its end.
@@ -13,13 +14,8 @@ const PLACES_IN_M: [usize; 48] = [
     512,
 ];
 
-/// Where the marks of fifteen parts stand in a payment.
-const MARKS: [usize; 15] = [
-    187, 216, 256, 285, 314, 343, 384, 413, 442, 471, 512, 541, 570, 599, 640,
-];
-
 fn verdict_on(file: &[u8]) -> (u8, usize) {
-    verdict(check(file))
+    verdict(&check(file))
 }
 
 /// The verdict on M with bytes put over the old ones at a place.

@@ -1,6 +1,6 @@
 //! One pass over a file, its fields in file order: the refusal, or the payments read and their totals.
 
-use crate::layout::{self, Field, END_LENGTH, FIRST_FIELD_WIDTH};
+use crate::layout::{self, Content, Field, END_LENGTH, FIRST_FIELD_WIDTH};
 use crate::refusal::{Number, Refusal};
 use crate::rules::{Entry, Ledger};
 use crate::signs::number;
@@ -10,7 +10,7 @@ use crate::totals::Totals;
 #[derive(Debug)]
 pub struct Reading<'a> {
     /// The fields of A that a listing shows.
-    pub header: Vec<&'a [u8]>,
+    pub header: Vec<Listed<'a>>,
     pub payments: Vec<Payment<'a>>,
     pub totals: Totals,
 }
@@ -22,7 +22,21 @@ pub struct Payment<'a> {
     pub start: usize,
     pub entry: Entry,
     /// The fields of C that a listing shows.
-    pub listed: Vec<&'a [u8]>,
+    pub listed: Vec<Listed<'a>>,
+}
+
+/// A field that a listing shows.
+#[derive(Debug)]
+pub struct Listed<'a> {
+    pub content: Content,
+    pub stretch: Stretch<'a>,
+}
+
+/// Bytes of a file, and the place where they begin in it.
+#[derive(Clone, Copy, Debug, Default, PartialEq, Eq)]
+pub struct Stretch<'a> {
+    pub place: usize,
+    pub bytes: &'a [u8],
 }
 
 /// Count and sums of a file.
@@ -88,7 +102,7 @@ impl<'a> Pass<'a> {
     }
 
     /// Reads fields one after another and keeps those that a listing shows.
-    fn fields(&mut self, fields: &[Field]) -> Result<Vec<&'a [u8]>, Refusal> {
+    fn fields(&mut self, fields: &[Field]) -> Result<Vec<Listed<'a>>, Refusal> {
         let mut listed = Vec::with_capacity(fields.len());
         for field in fields {
             let place = self.place();
@@ -97,7 +111,10 @@ impl<'a> Pass<'a> {
                 .take(field.content, bytes)
                 .map_err(|number| number.at(place))?;
             if field.listed {
-                listed.push(bytes);
+                listed.push(Listed {
+                    content: field.content,
+                    stretch: Stretch { place, bytes },
+                });
             }
         }
         Ok(listed)

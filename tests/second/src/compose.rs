@@ -113,11 +113,11 @@ fn filled_up(cell: &[u8], width: usize) -> Vec<u8> {
 mod tests {
     use super::*;
     use crate::listing;
-    use crate::refusal::Number;
-    use crate::samples::{self, m_listing, verdict, A_LINE, C_LINE};
+    use crate::refusal::{verdict, Number};
+    use crate::samples::{self, m_listing, A_LINE, C_LINE};
 
     fn refused(listing: &str) -> (u8, usize) {
-        verdict(file_of(listing.as_bytes()))
+        verdict(&file_of(listing.as_bytes()))
     }
 
     /// M's listing with one change in the line of its payment.

@@ -18,7 +18,7 @@ fn lines(reading: &Reading) -> Vec<u8> {
         // Digits end in no blank, and an absent date is all blank: every field may be cut alike.
         let cells: Vec<&[u8]> = fields
             .iter()
-            .map(|field| without_closing_blanks(field))
+            .map(|field| without_closing_blanks(field.stretch.bytes))
             .collect();
         lines.extend(cells.join(&b'\t'));
         lines.push(b'\n');

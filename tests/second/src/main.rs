@@ -17,6 +17,7 @@ mod refusal;
 mod rules;
 mod signs;
 mod totals;
+mod view;
 
 #[cfg(test)]
 mod cases;

@@ -22,6 +22,7 @@ pub enum Number {
     NoRoom = 16,
     NoLine = 17,
     LineMissing = 18,
+    NotThere = 19,
     InputTooLong = 20,
 }
 
@@ -49,6 +50,14 @@ impl Refusal {
     }
 }
 
+/// Number and place of a call's answer, 0 and 0 where it is accepted.
+pub fn verdict<T>(answer: &Result<T, Refusal>) -> (u8, usize) {
+    match answer {
+        Ok(_) => (0, 0),
+        Err(refusal) => (refusal.code(), refusal.place),
+    }
+}
+
 /// `Ok` where the condition holds, else the number.
 pub fn demand(holds: bool, number: Number) -> Result<(), Number> {
     if holds {
@@ -67,8 +76,15 @@ mod tests {
         assert_eq!(Number::NotWhole.at(7).code(), 1);
         assert_eq!(Number::CentsFull.at(7).code(), 9);
         assert_eq!(Number::LineMissing.at(7).code(), 18);
+        assert_eq!(Number::NotThere.at(7).code(), 19);
         assert_eq!(Number::InputTooLong.at(7).code(), 20);
         assert_eq!(Number::NoKey.at(7).place, 7);
+    }
+
+    #[test]
+    fn a_verdict_is_0_at_0_where_nothing_is_refused() {
+        assert_eq!(verdict(&Ok(5)), (0, 0));
+        assert_eq!(verdict::<u64>(&Err(Number::NoKey.at(7))), (12, 7));
     }
 
     #[test]

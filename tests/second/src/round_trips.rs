@@ -6,6 +6,8 @@ use crate::listing::list;
 use crate::output::Filling;
 use crate::refusal::Refusal;
 use crate::samples;
+use crate::signs::without_closing_blanks;
+use crate::view::{Text, View};
 
 /// Numbers that look random and are the same in every run.
 struct Dice(u64);
@@ -83,6 +85,45 @@ fn accepted_listings_come_back_from_their_file() {
         }
     }
     assert!((400..3_600).contains(&accepted), "{accepted} accepted");
+}
+
+/// All that a view hands out, without closing blanks.
+fn texts(view: View) -> Vec<Vec<u8>> {
+    let named = [Text::C14a, Text::C15, Text::C16];
+    let all = named.into_iter().chain((1..).map(Text::Part));
+    all.map_while(|text| view.hand_out(text).ok())
+        .map(|stretch| without_closing_blanks(stretch.bytes).to_vec())
+        .collect()
+}
+
+/// The texts in a line of a payment: C14a, C15 and C16, then that of each part behind its mark.
+fn texts_in(line: &[u8]) -> Vec<Vec<u8>> {
+    let cells: Vec<&[u8]> = line.split(|&byte| byte == b'\t').collect();
+    let named = cells[10..13].iter();
+    let texts = named.chain(cells[13..].iter().skip(1).step_by(2));
+    texts.map(|text| text.to_vec()).collect()
+}
+
+#[test]
+fn views_hand_out_the_texts_of_the_listing() {
+    let mut dice = Dice(27);
+    let mut payments = 0;
+    for _ in 0..1_000 {
+        let mut file = sample_file(&mut dice);
+        dice.damage(&mut file);
+        match written(list, &file) {
+            Err(refusal) => assert_eq!(View::of(&file, 0), Err(refusal)),
+            Ok(listing) => {
+                let mut views = (0..).map_while(|n| View::of(&file, n).ok());
+                for line in String::from_utf8_lossy(&listing).lines().skip(1) {
+                    payments += 1;
+                    assert_eq!(views.next().map(texts), Some(texts_in(line.as_bytes())));
+                }
+                assert_eq!(views.next(), None);
+            }
+        }
+    }
+    assert!((200..1_800).contains(&payments), "{payments} payments");
 }
 
 #[test]

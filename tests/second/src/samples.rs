@@ -1,6 +1,5 @@
 //! Files and listings for the tests: the whole case M and files made like it.
 
-use crate::refusal::Refusal;
 use std::io::{self, Read};
 
 /// The A line of M.
@@ -14,6 +13,11 @@ pub const C_LINE: &str = "C\t00000000\t30050020\t0007654321\t0000000000000\t51\t
 pub fn m_listing() -> String {
     [A_LINE, C_LINE].concat()
 }
+
+/// Where the marks of fifteen parts stand in a payment.
+pub const MARKS: [usize; 15] = [
+    187, 216, 256, 285, 314, 343, 384, 413, 442, 471, 512, 541, 570, 599, 640,
+];
 
 /// Mark and text of an extension part.
 pub type Part<'a> = (&'a str, &'a str);
@@ -96,11 +100,6 @@ pub fn parts(number: usize) -> Vec<Part<'static>> {
 pub fn changed(mut bytes: Vec<u8>, place: usize, over: &[u8]) -> Vec<u8> {
     bytes[place..place + over.len()].copy_from_slice(over);
     bytes
-}
-
-/// Number and place of a call's answer, 0 and 0 where it is accepted.
-pub fn verdict<T>(answer: Result<T, Refusal>) -> (u8, usize) {
-    answer.map_or_else(|refusal| (refusal.code(), refusal.place), |_| (0, 0))
 }
 
 /// An input that comes in short pieces.
