@@ -1,6 +1,7 @@
 -- view::find meets its contract: the check's refusal, 19, or the start of payment n.
 -- Assumes nothing.
 use Prim.Native.Nat.{_<_}
+use native.Mathlib.Omega.{arith}
 use mathlib.Core.Path.{subst, _∙_}
 use borrow.Author.Needs.{needs}
 use Rattle.columns.proofs.LoadLaws.{count-is}
@@ -23,7 +24,7 @@ refused-requires-2 c κs = search needs
 returns-2 : tie.Need-returns-2
 returns-2 c =
     let i = c .before in
-    c .refused2 .ensures ∙ find-none _ (i .before .before .before .check .ensures) (i .before .if1 .left) _ (i .if2 .taken)
+    c .refused2 .ensures ∙ find-none _ (i .before .before .before .check .ensures) (i .before .if1 .left) _ (omega (arith, i .if2 .taken))
 
 start-of-requires : tie.Need-start-of-requires
 start-of-requires c κs =
