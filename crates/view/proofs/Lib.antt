@@ -8,4 +8,5 @@ pub mod Walking
 pub mod Calls
 pub mod Plain
 pub mod OneAnswer
-pub mod Answers
+pub mod SpotAnswers
+pub mod ViewAnswers

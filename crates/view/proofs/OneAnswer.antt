@@ -1,17 +1,14 @@
 -- The promises of `make`, `hand` and `text_of` admit one answer each. No promise fixes a reference's ghost name, which is no part of the machine value, so what is one is the machine value: the pointer, the count and the numbers.
 --     one-made, one-handed, one-text      any two answers that keep the promise have the same machine value
---     refused-view                        a refused making's view has no bytes, and start 0
---     refused-text                        a refused hand-out's text is empty
 -- Assumes nothing.
 use mathlib.Core.Path.{_≡_, sym, _∙_}
 use Prim.Native.Nat.{ℕ}
-use mathlib.Core.List.{List, []}
+use mathlib.Core.List.{List}
 use mir.Syntax.{w8, w64}
 use mir.Val.{vint, vstruct, vcons, vnil}
 use lib.ListN.{length}
 use denote.Ref.{RefT, now}
 use denote.Slice.{sliceVal}
-use Rattle.view.specs.Spots.{refusing}
 use Rattle.view.specs.Views.{IsMade, IsHanded, IsText}
 use Rattle.view.specs.declared.Wanted.{Wanted}
 use Rattle.view.specs.declared.Spot.{Spot}
@@ -33,9 +30,3 @@ one-handed s p x y e f = λ j. vstruct (vcons (one-slice (x .text) (y .text) (e 
 
 pub one-text : (s : RefT (List ℕ)) (n : ℕ) (w : Wanted) (x y : RefT (List ℕ)) → IsText s n w x → IsText s n w y → slice x ≡ slice y
 one-text s n w x y e f = one-slice x y e f
-
-pub refused-view : (s : RefT (List ℕ)) (number place : ℕ) (m : Made) → IsMade s (refusing number place) m → (now (m .view .file) ≡ []) × (m .view .start ≡ 0)
-refused-view s number place m e = (e .0 .0, e .1)
-
-pub refused-text : (s : RefT (List ℕ)) (number place : ℕ) (h : Handed) → IsHanded s (refusing number place) h → now (h .text) ≡ []
-refused-text s number place h e = e .0 .0
