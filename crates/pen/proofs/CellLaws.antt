@@ -16,7 +16,8 @@ use Rattle.listing.specs.Records.{recordParts, recordC, cells}
 use Rattle.pen.specs.declared.Cell.{Cell}
 use Rattle.pen.specs.Walking.{recordOf, cellOf, cellsOf, cellAt}
 
-beyond : {X : Type 0} (l : List X) (i : ℕ) → length l ≤ i → getElem? l i ≡ none
+-- a list has no element from its length on
+pub beyond : {X : Type 0} (l : List X) (i : ℕ) → length l ≤ i → getElem? l i ≡ none
 beyond [] i h = refl
 beyond (x ∷ xs) zero h = absurd (omega arith)
 beyond (x ∷ xs) (suc i) h = beyond xs i (omega arith)

@@ -16,18 +16,13 @@ use Rattle.rules.specs.Answer.{answer}
 use Rattle.columns.specs.Columns.{startsFrom}
 use Rattle.columns.specs.Loading.{paymentsOf}
 use Rattle.columns.proofs.FillLaws.{Coming, payments-coming}
+use Rattle.pen.proofs.CellLaws.{beyond}
 use Rattle.view.specs.declared.Wanted.{Wanted}
 use Rattle.view.specs.declared.Wanted.the-variants.{C14a, C15, C16, Part as PartText}
 use Rattle.view.specs.Texts.{wordsOf, textOf, begunFrom, begunAt, found, hasText}
 use Rattle.view.proofs.LengthLaws.{Begun, first-begun, others-coming, first-ends, some-bytes}
 
 -- ---- starts
-
--- a list has no element from its length on
-pub none-behind : {X : Type 0} (l : List X) (i : ℕ) → length l ≤ i → getElem? l i ≡ none
-none-behind [] i h = refl
-none-behind (x ∷ xs) zero h = absurd (omega arith)
-none-behind (x ∷ xs) (suc i) h = none-behind xs i (omega arith)
 
 -- each start lies within the file
 pub start-inside : (f : List ℕ) (p : ℕ) (ps : List Payment) → Coming f p ps → (i q : ℕ) → getElem? (startsFrom p ps) i ≡ some q → q ≤ length f
@@ -113,7 +108,7 @@ part-told i qs = by (leb (suc i) (length qs)) refl
   where
     by : (b : Bool) → leb (suc i) (length qs) ≡ b → found (wordsOf (getElem? qs i)) ≡ b
     by true e = part-had i qs (omega (arith, leb-true (suc i) (length qs) e))
-    by false e = ap (λ o. found (wordsOf o)) (none-behind qs i (omega (arith, leb-false (suc i) (length qs) e)))
+    by false e = ap (λ o. found (wordsOf o)) (beyond qs i (omega (arith, leb-false (suc i) (length qs) e)))
 
 -- a text is had as the number of parts tells
 pub text-told : (w : Wanted) (x : Payment) → found (textOf w x) ≡ hasText w (length (x .parts))

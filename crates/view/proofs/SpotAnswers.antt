@@ -20,11 +20,12 @@ use Rattle.columns.specs.Columns.{starts}
 use Rattle.columns.specs.Loading.{paymentsOf}
 use Rattle.columns.proofs.FillLaws.{length-starts}
 use Rattle.columns.proofs.RowLaws.{stands-at}
+use Rattle.pen.proofs.CellLaws.{beyond}
 use Rattle.view.specs.declared.Wanted.{Wanted}
 use Rattle.view.specs.declared.Spot.{Spot}
 use Rattle.view.specs.Texts.{textOf, textWidth, placeOf, begunAt}
 use Rattle.view.specs.Spots.{refusing, standing, refusedAs, noSuch, fromStart, finding, findAt, ifText, ifBegun, locating, locateAt}
-use Rattle.view.proofs.BegunLaws.{none-behind, start-there, begun-at-start, none-at, begun-there}
+use Rattle.view.proofs.BegunLaws.{start-there, begun-at-start, none-at, begun-there}
 use Rattle.view.proofs.TextLaws.{text-stands}
 
 -- ---- where things stand
@@ -86,7 +87,7 @@ module _ (file : List ℕ) where
 
     -- there are fewer payments
     pub no-payment : (n : ℕ) → length ps ≤ n → findAt file n ≡ noSuch
-    no-payment n h = found-as n ∙ ap (λ o. fromStart o (length file)) (none-behind (starts ps) n (omega (arith, length-starts 128 ps)))
+    no-payment n h = found-as n ∙ ap (λ o. fromStart o (length file)) (beyond (starts ps) n (omega (arith, length-starts 128 ps)))
 
     -- no payment begins there
     pub no-start : (start : ℕ) → ((n : ℕ) → getElem? (starts ps) n ≡ some start → ⊥) → (w : Wanted) → locateAt file start w ≡ noSuch

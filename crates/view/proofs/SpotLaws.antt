@@ -21,12 +21,13 @@ use Rattle.columns.specs.Columns.{starts}
 use Rattle.columns.specs.Loading.{paymentsOf}
 use Rattle.columns.proofs.FillLaws.{length-starts, payments-coming}
 use Rattle.columns.proofs.LoadLaws.{accepted-as, count-is}
+use Rattle.pen.proofs.CellLaws.{beyond}
 use Rattle.view.specs.declared.Wanted.{Wanted}
 use Rattle.view.specs.Texts.{textOf, textWidth, placeOf, begunAt, found, hasText, partsTold}
 use Rattle.view.specs.Spots.{refusing, standing, noSuch, fromStart, finding, findAt, ifText, ifBegun, locating, locateAt}
 use Rattle.view.specs.Views.{Within}
 use Rattle.view.proofs.LengthLaws.{Begun, parts-there}
-use Rattle.view.proofs.BegunLaws.{none-behind, start-inside, begun-there, found-some, found-none, text-told}
+use Rattle.view.proofs.BegunLaws.{start-inside, begun-there, found-some, found-none, text-told}
 use Rattle.view.proofs.TextLaws.{text-stands}
 
 -- ---- within the file
@@ -95,7 +96,7 @@ module _ (f : List ℕ) {c : Checked} (told : c ≡ checkedOf (outcome (answer f
 
     pub find-none : (n : ℕ) → c .count ≤ n → noSuch ≡ findAt f n
     find-none n h =
-        let none-there = none-behind (starts (payments f)) n (omega (arith, length-starts 128 (payments f), count-is f told zero)) in
+        let none-there = beyond (starts (payments f)) n (omega (arith, length-starts 128 (payments f), count-is f told zero)) in
         sym (find-accepted n ∙ ap (λ o. fromStart o (length f)) none-there)
 
     pub find-some : (n p : ℕ) → getElem? (starts (payments f)) n ≡ some p → standing p (length f) ≡ findAt f n
