@@ -19,7 +19,8 @@ use Rattle.columns.proofs.FillLaws.{Coming, payments-coming}
 use Rattle.pen.proofs.CellLaws.{beyond}
 use Rattle.view.specs.declared.Wanted.{Wanted}
 use Rattle.view.specs.declared.Wanted.the-variants.{C14a, C15, C16, Part as PartText}
-use Rattle.view.specs.Texts.{wordsOf, textOf, begunFrom, begunAt, found, hasText}
+use Rattle.view.specs.Texts.{wordsOf, textOf, begunFrom, begunAt}
+use Rattle.view.specs.Seeking.{found, hasText}
 use Rattle.view.proofs.LengthLaws.{Begun, first-begun, others-coming, first-ends, some-bytes}
 
 -- ---- starts

@@ -13,7 +13,8 @@ use Rattle.pen.specs.declared.Cell.{Cell}
 use Rattle.pen.specs.Walking.{cellAt}
 use Rattle.view.specs.declared.Wanted.{Wanted}
 use Rattle.view.specs.declared.Wanted.the-variants.{C14a, C15, C16, Part as PartText}
-use Rattle.view.specs.Texts.{placeOf, hasText, fieldOf}
+use Rattle.view.specs.Texts.{placeOf}
+use Rattle.view.specs.Seeking.{hasText, fieldOf}
 
 -- a part that there is
 pub part-bounds : {i k : ℕ} → hasText (PartText i) k ≡ true → (1 ≤ i) × (i ≤ k)

@@ -24,7 +24,7 @@ use Rattle.fields.proofs.AnswerLaws.{zero-one}
 use Rattle.columns.proofs.StandLaws.{Stand, Spells, behind-first, first-inside, opened}
 use Rattle.columns.proofs.PaymentLaws.{fieldsOf, row, parts-told}
 use Rattle.columns.proofs.FillLaws.{Coming}
-use Rattle.view.specs.Texts.{partsTold}
+use Rattle.view.specs.Seeking.{partsTold}
 
 -- ---- as it is read
 

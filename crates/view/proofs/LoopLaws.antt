@@ -17,7 +17,8 @@ use Rattle.rules.specs.Answer.{answer}
 use Rattle.columns.specs.Columns.{startsFrom, starts}
 use Rattle.columns.specs.Loading.{paymentsOf}
 use Rattle.columns.proofs.FillLaws.{Coming, payments-coming}
-use Rattle.view.specs.Texts.{begunFrom, begunAt, found, partsTold}
+use Rattle.view.specs.Texts.{begunFrom, begunAt}
+use Rattle.view.specs.Seeking.{found, partsTold}
 use Rattle.view.proofs.LengthLaws.{first-begun, others-coming, first-ends, bytes-there}
 
 -- what is kept of the rows passed, the place and the payments still to come

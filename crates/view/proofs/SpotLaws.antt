@@ -23,14 +23,18 @@ use Rattle.columns.proofs.FillLaws.{length-starts, payments-coming}
 use Rattle.columns.proofs.LoadLaws.{accepted-as, count-is}
 use Rattle.pen.proofs.CellLaws.{beyond}
 use Rattle.view.specs.declared.Wanted.{Wanted}
-use Rattle.view.specs.Texts.{textOf, textWidth, placeOf, begunAt, found, hasText, partsTold}
+use Rattle.view.specs.declared.Spot.{Spot}
+use Rattle.view.specs.Texts.{textOf, textWidth, placeOf, begunAt}
+use Rattle.view.specs.Seeking.{found, hasText, partsTold}
 use Rattle.view.specs.Spots.{refusing, standing, noSuch, fromStart, finding, findAt, ifText, ifBegun, locating, locateAt}
-use Rattle.view.specs.Views.{Within}
 use Rattle.view.proofs.LengthLaws.{Begun, parts-there}
 use Rattle.view.proofs.BegunLaws.{start-inside, begun-there, found-some, found-none, text-told}
 use Rattle.view.proofs.TextLaws.{text-stands}
 
 -- ---- within the file
+
+abbrev pub Within : List ℕ → Spot → Type 0
+Within s r = (r .from ≤ r .to) × (r .to ≤ length s)
 
 abbrev payments : List ℕ → List Payment
 payments f = paymentsOf (answer f)

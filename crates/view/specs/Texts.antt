@@ -1,11 +1,10 @@
 -- The texts of a payment: which it has, where they stand in it, and which payment begins at a byte of the file.
 use Prim.Native.Nat.{ℕ, zero, suc, _+_, _-_, _*_, _/_, _%_}
-use mathlib.Core.Bool.{Bool, true, false, _&&_, cond}
+use mathlib.Core.Bool.{cond}
 use mathlib.Core.List.{List, [], _∷_}
 use mathlib.Core.Option.{Option, none, some}
 use lib.ListN.{length, getElem?}
 use lib.Dec.{leb, eqb}
-use Rattle.form.specs.Reader.{Look, has, lacks}
 use Rattle.rules.specs.Values.{Part, Payment}
 use Rattle.rules.specs.Writing.{writePayment}
 use Rattle.view.specs.declared.Wanted.{Wanted}
@@ -55,28 +54,3 @@ begunFrom start p (x ∷ xs) = let others = begunFrom start (p + length (writePa
 -- in a file, where the first stands behind A
 unfoldable pub begunAt : ℕ → List Payment → Option Payment
 begunAt start ps = begunFrom start 128 ps
-
--- ---- for the code
-
-abbrev pub found : {A : Type 0} → Option A → Bool
-found none = false
-found (some a) = true
-
--- with k parts it has the text
-abbrev pub hasText : Wanted → ℕ → Bool
-hasText C14a k = true
-hasText C15 k = true
-hasText C16 k = true
-hasText (PartText i) k = leb 1 i && leb i k
-
--- which field of a payment's line it is, counted from 0 behind the letter: mark and text of each part follow C16
-abbrev pub fieldOf : Wanted → ℕ
-fieldOf C14a = 9
-fieldOf C15 = 10
-fieldOf C16 = 11
-fieldOf (PartText i) = 11 + 2 * i
-
--- the number of parts that the length of a C tells, 187 and 29 for each
-unfoldable pub partsTold : Look ℕ → ℕ
-partsTold (has l) = (l - 187) / 29
-partsTold (lacks z) = 0

@@ -1,9 +1,9 @@
 -- What the calls over a view give back: a stretch of the file itself, and number and place.
-use Prim.Native.Nat.{ℕ, _+_, _-_, _≤_}
+use Prim.Native.Nat.{ℕ, _+_, _-_}
 use mathlib.Core.Path.{_≡_}
 use mathlib.Core.Bool.{Bool, true, false}
 use mathlib.Core.List.{List}
-use lib.ListN.{length, take, drop}
+use lib.ListN.{take, drop}
 use lib.Dec.{eqb}
 use denote.Ref.{RefT, now}
 use Rattle.fields.specs.declared.Refusal.{Refusal}
@@ -13,10 +13,6 @@ use Rattle.view.specs.declared.Spot.{Spot}
 use Rattle.view.specs.declared.Made.{Made}
 use Rattle.view.specs.declared.Handed.{Handed}
 use Rattle.view.specs.Spots.{findAt, locateAt}
-
--- a stretch lies within the bytes
-abbrev pub Within : List ℕ → Spot → Type 0
-Within s r = (r .from ≤ r .to) × (r .to ≤ length s)
 
 -- r is the stretch of the slice s from a to e itself: the same memory, a bytes further on, and the bytes that stand there
 abbrev pub Stretch : RefT (List ℕ) → ℕ → ℕ → RefT (List ℕ) → Type 0

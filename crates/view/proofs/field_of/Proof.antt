@@ -4,7 +4,7 @@ use Prim.Native.Nat.{_≤_}
 use native.Mathlib.Omega.{arith}
 use mathlib.Core.Path.{sym, ap, _∙_}
 use borrow.Author.Needs.{needs}
-use Rattle.view.specs.Texts.{hasText, fieldOf}
+use Rattle.view.specs.Seeking.{hasText, fieldOf}
 use Rattle.view.proofs.FieldLaws.{part-bounds}
 use Rattle.view.proofs.field_of.Statement.{statement}
 use Rattle.view.proofs.field_of.Tie as tie

@@ -34,7 +34,7 @@ use denote.Struct.Rest.{own-shut}
 use denote.Triple.Statement.{Triple}
 use denote.Triple.Entry.{onEntry}
 use denote.Triple.Table.{cited}
-use Rattle.view.specs.Views.{Within, Stretch, IsHanded}
+use Rattle.view.specs.Views.{Stretch, IsHanded}
 use Rattle.view.specs.declared.Wanted.{Wanted}
 use Rattle.view.specs.declared.View.{View}
 use Rattle.view.specs.declared.Spot.{Spot}
@@ -47,7 +47,7 @@ use Rattle.view.proofs.Wanted as E
 use Rattle.view.proofs.Wanted.Laws as E′
 use Rattle.view.proofs.Handed as H′
 use Rattle.view.proofs.Handed.Laws as H″
-use Rattle.view.proofs.SpotLaws.{locate-within}
+use Rattle.view.proofs.SpotLaws.{Within, locate-within}
 use Rattle.view.proofs.Walking.{with-number, goes, Promise, Alive, Asked, asks, lent, Ends, exits, proves}
 use Rattle.view.proofs.Calls.{α, mach, slice, Own, Text, spotOf, spot-fits, file-of, to-stretch, stretch-asked}
 use Rattle.view.proofs.locate as locate

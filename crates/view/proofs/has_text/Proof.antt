@@ -2,7 +2,7 @@
 -- Assumes nothing.
 use mathlib.Core.Path.{sym, ap}
 use borrow.Author.Needs.{needs}
-use Rattle.view.specs.Texts.{hasText}
+use Rattle.view.specs.Seeking.{hasText}
 use Rattle.view.proofs.has_text.Statement.{statement}
 use Rattle.view.proofs.has_text.Tie as tie
 

@@ -10,7 +10,8 @@ use borrow.Author.Tests.{not-false, not-true}
 use Rattle.rules.specs.Answer.{answer}
 use Rattle.columns.specs.Loading.{paymentsOf}
 use Rattle.columns.proofs.LoadLaws.{count-is}
-use Rattle.view.specs.Texts.{textWidth, placeOf, begunAt, found, hasText}
+use Rattle.view.specs.Texts.{textWidth, placeOf, begunAt}
+use Rattle.view.specs.Seeking.{found, hasText}
 use Rattle.view.specs.Spots.{standing}
 use Rattle.view.proofs.FieldLaws.{longest-has, found-place}
 use Rattle.view.proofs.SpotLaws.{locate-refused, locate-none, few, locate-no-text, locate-text, text-ends}

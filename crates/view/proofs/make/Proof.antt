@@ -34,7 +34,7 @@ use denote.Triple.Statement.{Triple}
 use denote.Triple.Entry.{onEntry}
 use denote.Triple.Table.{cited}
 use Rattle.view.specs.Spots.{findAt}
-use Rattle.view.specs.Views.{Within, Stretch, IsMade}
+use Rattle.view.specs.Views.{Stretch, IsMade}
 use Rattle.view.specs.declared.View.{View}
 use Rattle.view.specs.declared.Spot.{Spot}
 use Rattle.view.specs.declared.Made.{Made}
@@ -44,7 +44,7 @@ use Rattle.view.proofs.Spot as P
 use Rattle.view.proofs.Spot.Laws as P′
 use Rattle.view.proofs.Made as N
 use Rattle.view.proofs.Made.Laws as N′
-use Rattle.view.proofs.SpotLaws.{find-within}
+use Rattle.view.proofs.SpotLaws.{Within, find-within}
 use Rattle.view.proofs.Walking.{with-number, goes, Promise, Alive, Asked, asks, lent, Ends, exits, proves}
 use Rattle.view.proofs.Calls.{α, slice, Own, Text, spot-fits, to-stretch, stretch-asked}
 use Rattle.view.proofs.find as find
