@@ -6,7 +6,7 @@ use crate::requests::read_bytes;
 use crate::requests::read_rows;
 use crate::requests::size_at;
 use crate::requests::wanted;
-use view::Wanted;
+use spots::Wanted;
 
 // The most rows of a column.
 const MOST_ROWS: usize = 256;
@@ -55,14 +55,14 @@ fn load(head: &[u8; HEAD], input: &[u8]) -> bool {
 
 // Where a payment stands.
 fn find(head: &[u8; HEAD], input: &[u8]) -> bool {
-    let spot = view::find(input, index_at(head, 1));
+    let spot = spots::find(input, index_at(head, 1));
     printing::spot(spot);
     true
 }
 
 // Where a text stands of the payment that begins at a start.
 fn hand(head: &[u8; HEAD], input: &[u8]) -> bool {
-    let spot = view::locate(input, index_at(head, 1), wanted(head));
+    let spot = spots::locate(input, index_at(head, 1), wanted(head));
     printing::spot(spot);
     true
 }

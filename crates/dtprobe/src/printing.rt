@@ -2,8 +2,8 @@
 use fields::Refusal;
 use libc::STDOUT_FILENO;
 use pen::Written;
+use spots::Spot;
 use sums::Sums;
-use view::Spot;
 
 fn number_then(n: u64, mark: u8) {
     io::print_decimal(STDOUT_FILENO, n);

@@ -2,7 +2,7 @@
 ghost use Rattle.io.specs.Counts.{Counts};
 use fields::Number;
 use libc::STDIN_FILENO;
-use view::Wanted;
+use spots::Wanted;
 
 // The bytes of a head line.
 pub(crate) const HEAD: usize = 37;

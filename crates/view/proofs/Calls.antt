@@ -25,12 +25,12 @@ use denote.Ref.{RefT, NamedLft, now}
 use denote.Signature.{namedLft}
 use denote.Slice.{sliceVal, ShrSlice}
 use denote.Struct.Laws as LL
-use Rattle.view.specs.Spots.{locateAt}
-use Rattle.view.specs.declared.Wanted.{Wanted}
+use Rattle.spots.specs.Spots.{locateAt}
+use Rattle.spots.specs.declared.Wanted.{Wanted}
+use Rattle.spots.specs.declared.Spot.{Spot}
+use Rattle.spots.proofs.Spot as P
+use Rattle.spots.proofs.Spot.Laws as P′
 use Rattle.view.specs.declared.View.{View}
-use Rattle.view.specs.declared.Spot.{Spot}
-use Rattle.view.proofs.Spot as P
-use Rattle.view.proofs.Spot.Laws as P′
 use Rattle.view.proofs.View as T
 use Rattle.view.proofs.View.Laws as T′
 use Rattle.view.proofs.Walking.{field-of, Promise, Asked, lent}

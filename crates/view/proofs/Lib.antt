@@ -1,12 +1,5 @@
-pub mod LengthLaws
-pub mod LoopLaws
-pub mod FieldLaws
-pub mod TextLaws
-pub mod BegunLaws
-pub mod SpotLaws
 pub mod Walking
 pub mod Calls
 pub mod Plain
 pub mod OneAnswer
-pub mod SpotAnswers
-pub mod ViewAnswers
+pub mod Answers

@@ -9,9 +9,9 @@ use mir.Val.{vint, vstruct, vcons, vnil}
 use lib.ListN.{length}
 use denote.Ref.{RefT, now}
 use denote.Slice.{sliceVal}
+use Rattle.spots.specs.declared.Wanted.{Wanted}
+use Rattle.spots.specs.declared.Spot.{Spot}
 use Rattle.view.specs.Views.{IsMade, IsHanded, IsText}
-use Rattle.view.specs.declared.Wanted.{Wanted}
-use Rattle.view.specs.declared.Spot.{Spot}
 use Rattle.view.specs.declared.Made.{Made}
 use Rattle.view.specs.declared.Handed.{Handed}
 use Rattle.view.proofs.Made.Laws as N′

@@ -32,14 +32,14 @@ use denote.Ref.{RefT, NamedLft, now}
 use denote.Slice.{ShrSlice, slice-vals, shr-slice-tells, shr-slice-copy}
 use denote.Enum.Laws as EL
 use denote.Struct.Laws as LL
-use Rattle.view.specs.Spots.{findAt, locateAt}
+use Rattle.spots.specs.Spots.{findAt, locateAt}
+use Rattle.spots.specs.declared.Wanted.{Wanted}
+use Rattle.spots.specs.declared.Spot.{Spot}
+use Rattle.spots.proofs.Wanted as E
+use Rattle.spots.proofs.Wanted.Laws as E′
 use Rattle.view.specs.Views.{Stretch, IsMade, IsHanded, IsText, bytesOf, textAt, firstOf, refusalFor}
-use Rattle.view.specs.declared.Wanted.{Wanted}
-use Rattle.view.specs.declared.Spot.{Spot}
 use Rattle.view.specs.declared.Made.{Made}
 use Rattle.view.specs.declared.Handed.{Handed}
-use Rattle.view.proofs.Wanted as E
-use Rattle.view.proofs.Wanted.Laws as E′
 use Rattle.view.proofs.Made as N
 use Rattle.view.proofs.Made.Laws as N′
 use Rattle.view.proofs.Handed as H′

@@ -8,11 +8,11 @@ use lib.Dec.{eqb}
 use denote.Ref.{RefT, now}
 use Rattle.fields.specs.declared.Refusal.{Refusal}
 use Rattle.fields.specs.Answers.{refusalOf}
-use Rattle.view.specs.declared.Wanted.{Wanted}
-use Rattle.view.specs.declared.Spot.{Spot}
+use Rattle.spots.specs.declared.Wanted.{Wanted}
+use Rattle.spots.specs.declared.Spot.{Spot}
+use Rattle.spots.specs.Spots.{findAt, locateAt}
 use Rattle.view.specs.declared.Made.{Made}
 use Rattle.view.specs.declared.Handed.{Handed}
-use Rattle.view.specs.Spots.{findAt, locateAt}
 
 -- r is the stretch of the slice s from a to e itself: the same memory, a bytes further on, and the bytes that stand there
 abbrev pub Stretch : RefT (List ℕ) → ℕ → ℕ → RefT (List ℕ) → Type 0

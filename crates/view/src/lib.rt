@@ -1,50 +1,13 @@
 // The view of one payment: it holds the file and where the payment begins, and hands out the payment's texts as stretches of the file itself.
-// What branches stands in `find` and `locate`, on plain parameters. The calls that make, take or take apart a view only go from one of them
-// to a stretch of the file.
+// What branches stands in `spots`, on plain parameters. The calls here make a view, take one or take one apart, and only go from a spot to a
+// stretch of the file.
 ghost use mathlib.Core.Path.{_≡_};
-ghost use Prim.Native.Nat.{_≤_, _<_};
-ghost use mathlib.Core.Bool.{true};
-ghost use mathlib.Core.Option.{some};
-ghost use lib.ListN.{length, getElem?};
-ghost use Rattle.form.specs.Kind.{digits};
-ghost use Rattle.form.specs.Place.{lookAt};
-ghost use Rattle.rules.specs.Answer.{answer};
-ghost use Rattle.columns.specs.Columns.{starts};
-ghost use Rattle.columns.specs.Loading.{paymentsOf};
-ghost use Rattle.view.specs.Texts.{begunAt};
-ghost use Rattle.view.specs.Seeking.{found, hasText, fieldOf, partsTold};
-ghost use Rattle.view.specs.Spots.{refusing, findAt, locateAt};
+ghost use Prim.Native.Nat.{_≤_};
+ghost use lib.ListN.{length};
+ghost use Rattle.spots.specs.Spots.{findAt, locateAt};
 ghost use Rattle.view.specs.Views.{Stretch, IsMade, IsHanded, IsText, firstOf, refusalFor};
-use fields::Number;
 use fields::Refusal;
-use fields::lengths;
-use fields::numbers;
-
-// The bytes of a text.
-const TEXT: usize = 27;
-
-// Which fields of a payment's line are C14a, C15 and C16, counted from 0 behind its letter; mark and text of each part follow.
-const FIELD_C14A: usize = 9;
-
-const FIELD_C15: usize = 10;
-
-const FIELD_C16: usize = 11;
-
-// A text of a payment: a field, or that of a part, counted from 1.
-pub enum Wanted {
-    C14a,
-    C15,
-    C16,
-    Part(usize),
-}
-
-// Where a stretch of the file begins and ends, or why there is none. With 0 the place is 0, with any other number the stretch is empty.
-pub struct Spot {
-    pub number: u8,
-    pub place: usize,
-    pub from: usize,
-    pub to: usize,
-}
+use spots::Wanted;
 
 // A payment: the file, and where the payment begins in it.
 pub struct View<'a> {
@@ -66,135 +29,6 @@ pub struct Handed<'a> {
     pub place: usize,
 }
 
-// No stretch.
-fn refused(number: u8, place: usize) -> Spot
-    ensures { λ r. ⌜ r ≡ refusing number place ⌝ }
-{
-    Spot {
-        number: number,
-        place: place,
-        from: 0,
-        to: 0,
-    }
-}
-
-// How many parts a payment at p has, as its length tells; 0 where no length of C stands there.
-fn parts_at(s: &[u8], p: usize) -> usize
-    ensures { λ r. ⌜ r ≡ partsTold (lookAt (digits 4) (now (s .entry)) p) ⌝ }
-{
-    let a = fields::number_at(s, p, 4);
-    let Number::Is(l, _) = a else {
-        return 0;
-    };
-    if l < lengths::FIELDS {
-        return 0;
-    }
-    ((l - lengths::FIELDS) / lengths::PART) as usize
-}
-
-// Where payment n of an accepted file begins.
-fn start_of(s: &[u8], n: usize) -> usize
-    requires { ⌜ n < length (paymentsOf (answer (now s))) ⌝ }
-    ensures { λ r. ⌜ getElem? (starts (paymentsOf (answer (now (s .entry))))) n ≡ some r ⌝ }
-{
-    let mut p = pen::FIRST_PAYMENT;
-    let mut row = 0;
-    while row < n {
-        let k = parts_at(s, p);
-        p += pen::bytes_of(k);
-        row += 1;
-    }
-    p
-}
-
-// Whether one of the n payments of an accepted file begins at start.
-fn begins(s: &[u8], n: usize, start: usize) -> bool
-    requires { ⌜ n ≡ length (paymentsOf (answer (now s))) ⌝ }
-    ensures { λ r. ⌜ r ≡ found (begunAt start (paymentsOf (answer (now (s .entry))))) ⌝ }
-{
-    let mut p = pen::FIRST_PAYMENT;
-    let mut row = 0;
-    while row < n {
-        if p == start {
-            return true;
-        }
-        let k = parts_at(s, p);
-        p += pen::bytes_of(k);
-        row += 1;
-    }
-    false
-}
-
-// Whether a payment of k parts has the text.
-fn has_text(w: Wanted, k: usize) -> bool
-    ensures { λ r. ⌜ r ≡ hasText w k ⌝ }
-{
-    match w {
-        Wanted::C14a => true,
-        Wanted::C15 => true,
-        Wanted::C16 => true,
-        Wanted::Part(i) => (1 <= i) & (i <= k),
-    }
-}
-
-// Which field of a payment's line it is.
-fn field_of(w: Wanted) -> usize
-    requires { ⌜ hasText w 15 ≡ true ⌝ }
-    ensures { λ r. ⌜ r ≡ fieldOf w ⌝ }
-{
-    match w {
-        Wanted::C14a => FIELD_C14A,
-        Wanted::C15 => FIELD_C15,
-        Wanted::C16 => FIELD_C16,
-        Wanted::Part(i) => FIELD_C16 + 2 * i,
-    }
-}
-
-// Payment n of the file, from 0: from its first byte to the end of the file.
-pub fn find(s: &[u8], n: usize) -> Spot
-    ensures { λ r. ⌜ r ≡ findAt (now (s .entry)) n ⌝ }
-{
-    let checked = checker::check(s);
-    if checked.number != 0 {
-        return refused(checked.number, checked.place);
-    }
-    if n >= checked.count as usize {
-        return refused(numbers::NO_SUCH, 0);
-    }
-    let start = start_of(s, n);
-    Spot {
-        number: 0,
-        place: 0,
-        from: start,
-        to: s.len(),
-    }
-}
-
-// A text of the payment that begins at start, all of its bytes.
-pub fn locate(s: &[u8], start: usize, w: Wanted) -> Spot
-    ensures { λ r. ⌜ r ≡ locateAt (now (s .entry)) start w ⌝ }
-{
-    let checked = checker::check(s);
-    if checked.number != 0 {
-        return refused(checked.number, checked.place);
-    }
-    if !begins(s, checked.count as usize, start) {
-        return refused(numbers::NO_SUCH, 0);
-    }
-    let k = parts_at(s, start);
-    if !has_text(w, k) {
-        return refused(numbers::NO_SUCH, 0);
-    }
-    let cell = pen::cell_at(false, field_of(w));
-    let from = start + cell.place;
-    Spot {
-        number: 0,
-        place: 0,
-        from: from,
-        to: from + TEXT,
-    }
-}
-
 // A stretch of the file itself.
 fn stretch(s: &[u8], from: usize, to: usize) -> &[u8]
     requires { ⌜ (from ≤ to) × (to ≤ length (now s)) ⌝ }
@@ -207,7 +41,7 @@ fn stretch(s: &[u8], from: usize, to: usize) -> &[u8]
 pub fn make<'a>(file: &'a [u8], n: usize) -> Made<'a>
     ensures { λ r. ⌜ IsMade (file .entry) (findAt (now (file .entry)) n) r ⌝ }
 {
-    let spot = find(file, n);
+    let spot = spots::find(file, n);
     let bytes = stretch(file, 0, spot.to);
     Made {
         view: View {
@@ -223,7 +57,7 @@ pub fn make<'a>(file: &'a [u8], n: usize) -> Made<'a>
 pub fn hand<'a>(v: View<'a>, w: Wanted) -> Handed<'a>
     ensures { λ r. ⌜ IsHanded (v .entry .file) (locateAt (now (v .entry .file)) (v .entry .start) w) r ⌝ }
 {
-    let spot = locate(v.file, v.start, w);
+    let spot = spots::locate(v.file, v.start, w);
     let text = stretch(v.file, spot.from, spot.to);
     Handed {
         text,

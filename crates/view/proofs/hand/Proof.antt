@@ -34,26 +34,26 @@ use denote.Struct.Rest.{own-shut}
 use denote.Triple.Statement.{Triple}
 use denote.Triple.Entry.{onEntry}
 use denote.Triple.Table.{cited}
+use Rattle.spots.specs.declared.Wanted.{Wanted}
+use Rattle.spots.specs.declared.Spot.{Spot}
+use Rattle.spots.proofs.Spot as P
+use Rattle.spots.proofs.Spot.Laws as P′
+use Rattle.spots.proofs.Wanted as E
+use Rattle.spots.proofs.Wanted.Laws as E′
+use Rattle.spots.proofs.SpotLaws.{Within, locate-within}
+use Rattle.spots.proofs.locate as locate
+use Rattle.spots.proofs.locate.Symbol as locate-def
+use Rattle.spots.proofs.locate.Symbol.{name as #spots·locate}
+use Rattle.spots.proofs.locate.Met as locate-thm
 use Rattle.view.specs.Views.{Stretch, IsHanded}
-use Rattle.view.specs.declared.Wanted.{Wanted}
 use Rattle.view.specs.declared.View.{View}
-use Rattle.view.specs.declared.Spot.{Spot}
 use Rattle.view.specs.declared.Handed.{Handed}
 use Rattle.view.proofs.View as T
 use Rattle.view.proofs.View.Laws as T′
-use Rattle.view.proofs.Spot as P
-use Rattle.view.proofs.Spot.Laws as P′
-use Rattle.view.proofs.Wanted as E
-use Rattle.view.proofs.Wanted.Laws as E′
 use Rattle.view.proofs.Handed as H′
 use Rattle.view.proofs.Handed.Laws as H″
-use Rattle.view.proofs.SpotLaws.{Within, locate-within}
 use Rattle.view.proofs.Walking.{with-number, goes, Promise, Alive, Asked, asks, lent, Ends, exits, proves}
 use Rattle.view.proofs.Calls.{α, mach, slice, Own, Text, spotOf, spot-fits, file-of, to-stretch, stretch-asked}
-use Rattle.view.proofs.locate as locate
-use Rattle.view.proofs.locate.Symbol as locate-def
-use Rattle.view.proofs.locate.Symbol.{name as #view·locate}
-use Rattle.view.proofs.locate.Met as locate-thm
 use Rattle.view.proofs.stretch as stretch
 use Rattle.view.proofs.stretch.Symbol as stretch-def
 use Rattle.view.proofs.stretch.Symbol.{name as #view·stretch}
@@ -88,7 +88,7 @@ module _ {M : Type 1} (𝓤 : URA M) (H : Heap 𝓤) (A : Atoms 𝓤) (W : Given
   answers p x number-fits place-fits =
       qed W (‵ (Text κ x) ∷ []) ∵ nothing ! $ with-number ! w64 (p .place) place-fits $ with-number ! w8 (p .number) number-fits $ move ! (1 ∷ 0 ∷ []) $ fjoin ! $ by ! (own-shut 𝓤 H A W (H′.the-type (α κ)) (H″.the-laws (α κ)) (x, (p .number, (p .place, tt))))
 
-  module _ (C : Calls 𝓤 H) (Λ : Loops 𝓤 H) (fm : FmC 𝓤 H (W .laws) C) (known-locate : Triple 𝓤 (C #view·locate) (Promise 𝓤 H A locate.ended (locate.clauses 𝓤 H A mem run))) (known-stretch : Triple 𝓤 (C #view·stretch) (Promise 𝓤 H A stretch.ended (stretch.clauses 𝓤 H A mem run))) where
+  module _ (C : Calls 𝓤 H) (Λ : Loops 𝓤 H) (fm : FmC 𝓤 H (W .laws) C) (known-locate : Triple 𝓤 (C #spots·locate) (Promise 𝓤 H A locate.ended (locate.clauses 𝓤 H A mem run))) (known-stretch : Triple 𝓤 (C #view·stretch) (Promise 𝓤 H A stretch.ended (stretch.clauses 𝓤 H A mem run))) where
     walk : Holds (hasTy (T′.mir (named 0)) (mach d)) × WT (mach d) → ent 𝓤 (onEntry 𝓤 H A hand.signature (κ, tt) (q, tt) (d, (w, tt)) (here .0 .4)) (WpFn 𝓤 H C Λ code.function (mach d ∷ E′.lowered w ∷ []) (Ends 𝓤 H A W hand.ended (hand.clauses 𝓤 H A mem run) .post here))
     walk wt =
         qed W (raw (Alive 𝓤 H A hand.ended (hand.clauses 𝓤 H A mem run) here) ∷ ‵ (owns (T.the-row (α κ) ∷ E.the-row ∷ []) (d, (w, tt)) (here .0 .4)) ∷ []) ∵ enter ! C Λ code.function (mach d ∷ E′.lowered w ∷ []) _ $
@@ -123,6 +123,6 @@ hand-spec 𝓤 H 𝓜 𝓖 𝓡 =
     ((λ κs x f. refl), ((λ κs x f. refl), tt))
     (λ κs. (LL.vals (T.the-type (namedLft 1 0 tt κs)) (T′.the-laws (namedLft 1 0 tt κs)), ((λ w. E′.lowered w ∷ []), tt))) (λ κs. (LL.tells (T.the-type (namedLft 1 0 tt κs)) (T′.the-laws (namedLft 1 0 tt κs)), (E′.lowers .val-is, tt)))
     (λ fm κs qs bounds a g are. walk 𝓤 H (𝓖 .A) (givenOf 𝓤 H 𝓜 𝓖) (𝓜 .mem) (𝓡 .run) (κs .0) (qs .0) (a .0) (a .1 .0) (are .1 .0) (tables 𝓤 H 𝓜 𝓡 code.env .C) (tables 𝓤 H 𝓜 𝓡 code.env .Λ) fm
-    (cited 𝓤 H (Promise 𝓤 H (𝓖 .A) locate.ended (locate.clauses 𝓤 H (𝓖 .A) (𝓜 .mem) (𝓡 .run))) 𝓜 𝓡 code.env #view·locate locate-def.routine code.calls-view·locate (locate-thm.met 𝓤 H 𝓜 𝓖 𝓡))
+    (cited 𝓤 H (Promise 𝓤 H (𝓖 .A) locate.ended (locate.clauses 𝓤 H (𝓖 .A) (𝓜 .mem) (𝓡 .run))) 𝓜 𝓡 code.env #spots·locate locate-def.routine code.calls-spots·locate (locate-thm.met 𝓤 H 𝓜 𝓖 𝓡))
     (cited 𝓤 H (Promise 𝓤 H (𝓖 .A) stretch.ended (stretch.clauses 𝓤 H (𝓖 .A) (𝓜 .mem) (𝓡 .run))) 𝓜 𝓡 code.env #view·stretch stretch-def.routine code.calls-view·stretch (stretch-thm.met 𝓤 H 𝓜 𝓖 𝓡))
     (LL.lawful (T.the-type (namedLft 1 0 tt κs)) (T′.the-laws (namedLft 1 0 tt κs)) 𝓤 H (𝓖 .A) (givenOf 𝓤 H 𝓜 𝓖) .typed (a .0) _ (are .0) .0))

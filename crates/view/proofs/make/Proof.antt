@@ -33,24 +33,24 @@ use denote.Struct.Rest.{own-shut}
 use denote.Triple.Statement.{Triple}
 use denote.Triple.Entry.{onEntry}
 use denote.Triple.Table.{cited}
-use Rattle.view.specs.Spots.{findAt}
+use Rattle.spots.specs.Spots.{findAt}
+use Rattle.spots.specs.declared.Spot.{Spot}
+use Rattle.spots.proofs.Spot as P
+use Rattle.spots.proofs.Spot.Laws as P′
+use Rattle.spots.proofs.SpotLaws.{Within, find-within}
+use Rattle.spots.proofs.find as find
+use Rattle.spots.proofs.find.Symbol as find-def
+use Rattle.spots.proofs.find.Symbol.{name as #spots·find}
+use Rattle.spots.proofs.find.Met as find-thm
 use Rattle.view.specs.Views.{Stretch, IsMade}
 use Rattle.view.specs.declared.View.{View}
-use Rattle.view.specs.declared.Spot.{Spot}
 use Rattle.view.specs.declared.Made.{Made}
 use Rattle.view.proofs.View as T
 use Rattle.view.proofs.View.Laws as T′
-use Rattle.view.proofs.Spot as P
-use Rattle.view.proofs.Spot.Laws as P′
 use Rattle.view.proofs.Made as N
 use Rattle.view.proofs.Made.Laws as N′
-use Rattle.view.proofs.SpotLaws.{Within, find-within}
 use Rattle.view.proofs.Walking.{with-number, goes, Promise, Alive, Asked, asks, lent, Ends, exits, proves}
 use Rattle.view.proofs.Calls.{α, slice, Own, Text, spot-fits, to-stretch, stretch-asked}
-use Rattle.view.proofs.find as find
-use Rattle.view.proofs.find.Symbol as find-def
-use Rattle.view.proofs.find.Symbol.{name as #view·find}
-use Rattle.view.proofs.find.Met as find-thm
 use Rattle.view.proofs.stretch as stretch
 use Rattle.view.proofs.stretch.Symbol as stretch-def
 use Rattle.view.proofs.stretch.Symbol.{name as #view·stretch}
@@ -87,7 +87,7 @@ module _ {M : Type 1} (𝓤 : URA M) (H : Heap 𝓤) (A : Atoms 𝓤) (W : Given
       qed W (‵ (Text κ x) ∷ []) ∵ nothing ! $ with-number ! w64 (p .from) from-fits $ move ! (1 ∷ 0 ∷ []) $ fjoin ! $ use1 W (‵ (Own κ (seen p x))) (own-shut 𝓤 H A W (T.the-type (α κ)) (T′.the-laws (α κ)) (x, (p .from, tt))) $
       nothing ! $ with-number ! w64 (p .place) place-fits $ with-number ! w8 (p .number) number-fits $ move ! (1 ∷ 0 ∷ []) $ fjoin ! $ by ! (own-shut 𝓤 H A W (N.the-type (α κ)) (N′.the-laws (α κ)) (seen p x, (p .number, (p .place, tt))))
 
-  module _ (C : Calls 𝓤 H) (Λ : Loops 𝓤 H) (fm : FmC 𝓤 H (W .laws) C) (known-find : Triple 𝓤 (C #view·find) (Promise 𝓤 H A find.ended (find.clauses 𝓤 H A mem run))) (known-stretch : Triple 𝓤 (C #view·stretch) (Promise 𝓤 H A stretch.ended (stretch.clauses 𝓤 H A mem run))) where
+  module _ (C : Calls 𝓤 H) (Λ : Loops 𝓤 H) (fm : FmC 𝓤 H (W .laws) C) (known-find : Triple 𝓤 (C #spots·find) (Promise 𝓤 H A find.ended (find.clauses 𝓤 H A mem run))) (known-stretch : Triple 𝓤 (C #view·stretch) (Promise 𝓤 H A stretch.ended (stretch.clauses 𝓤 H A mem run))) where
     walk : Is (ShrSlice (named 0) κ u8) s (slice s ∷ []) → ent 𝓤 (onEntry 𝓤 H A make.signature (κ, tt) (q, tt) (s, (n, tt)) (here .0 .4)) (WpFn 𝓤 H C Λ code.function (slice s ∷ vint w64 n ∷ []) (Ends 𝓤 H A W make.ended (make.clauses 𝓤 H A mem run) .post here))
     walk is-s =
         qed W (raw (Alive 𝓤 H A make.ended (make.clauses 𝓤 H A mem run) here) ∷ ‵ (owns (ShrSlice (named 0) κ u8 ∷ usize ∷ []) (s, (n, tt)) (here .0 .4)) ∷ []) ∵ enter ! C Λ code.function (slice s ∷ vint w64 n ∷ []) _ $
@@ -120,6 +120,6 @@ make-spec 𝓤 H 𝓜 𝓖 𝓡 =
     ((λ κs x f. refl), ((λ κs x f. refl), tt))
     (λ κs. (slice-vals, (uint-vals w64, tt))) (λ κs. (shr-slice-tells (named 0) (κs .0) u8, (uint-tells w64, tt)))
     (λ fm κs qs bounds a g are. walk 𝓤 H (𝓖 .A) (givenOf 𝓤 H 𝓜 𝓖) (𝓜 .mem) (𝓡 .run) (κs .0) (qs .0) (a .0) (a .1 .0) (are .1 .0 .1) (tables 𝓤 H 𝓜 𝓡 code.env .C) (tables 𝓤 H 𝓜 𝓡 code.env .Λ) fm
-    (cited 𝓤 H (Promise 𝓤 H (𝓖 .A) find.ended (find.clauses 𝓤 H (𝓖 .A) (𝓜 .mem) (𝓡 .run))) 𝓜 𝓡 code.env #view·find find-def.routine code.calls-view·find (find-thm.met 𝓤 H 𝓜 𝓖 𝓡))
+    (cited 𝓤 H (Promise 𝓤 H (𝓖 .A) find.ended (find.clauses 𝓤 H (𝓖 .A) (𝓜 .mem) (𝓡 .run))) 𝓜 𝓡 code.env #spots·find find-def.routine code.calls-spots·find (find-thm.met 𝓤 H 𝓜 𝓖 𝓡))
     (cited 𝓤 H (Promise 𝓤 H (𝓖 .A) stretch.ended (stretch.clauses 𝓤 H (𝓖 .A) (𝓜 .mem) (𝓡 .run))) 𝓜 𝓡 code.env #view·stretch stretch-def.routine code.calls-view·stretch (stretch-thm.met 𝓤 H 𝓜 𝓖 𝓡))
     (are .0))

@@ -32,13 +32,13 @@ use denote.Triple.Entry.{onEntry}
 use denote.Triple.Table.{cited}
 use Rattle.fields.proofs.Refusal as R
 use Rattle.fields.proofs.Refusal.Laws as R′
-use Rattle.view.specs.Spots.{findAt}
+use Rattle.spots.specs.Spots.{findAt}
+use Rattle.spots.specs.declared.Wanted.{Wanted}
+use Rattle.spots.proofs.Wanted as E
+use Rattle.spots.proofs.Wanted.Laws as E′
 use Rattle.view.specs.Views.{IsMade, IsHanded, firstOf}
-use Rattle.view.specs.declared.Wanted.{Wanted}
 use Rattle.view.specs.declared.Made.{Made}
 use Rattle.view.specs.declared.Handed.{Handed}
-use Rattle.view.proofs.Wanted as E
-use Rattle.view.proofs.Wanted.Laws as E′
 use Rattle.view.proofs.Made.Laws as N′
 use Rattle.view.proofs.Handed.Laws as H″
 use Rattle.view.proofs.Walking.{with-number, goes, Promise, Alive, asks, asks-plain, Ends, exits, proves}

@@ -28,11 +28,11 @@ use denote.Enum.Laws as EL
 use denote.Triple.Statement.{Triple}
 use denote.Triple.Entry.{onEntry}
 use denote.Triple.Table.{cited}
-use Rattle.view.specs.Spots.{findAt}
+use Rattle.spots.specs.Spots.{findAt}
+use Rattle.spots.specs.declared.Wanted.{Wanted}
+use Rattle.spots.proofs.Wanted as E
+use Rattle.spots.proofs.Wanted.Laws as E′
 use Rattle.view.specs.Views.{IsMade, IsHanded}
-use Rattle.view.specs.declared.Wanted.{Wanted}
-use Rattle.view.proofs.Wanted as E
-use Rattle.view.proofs.Wanted.Laws as E′
 use Rattle.view.proofs.Made.Laws as N′
 use Rattle.view.proofs.Handed.Laws as H″
 use Rattle.view.proofs.Walking.{goes, Promise, Alive, asks, Ends, exits, proves}

@@ -1,0 +1,131 @@
+-- What the statements of `make`, `hand`, `text_of` and `refusal_of` come to: a refusal gives no bytes; and of payment n of an acceptable file the
+-- view has the whole file and the payment's start, and hands out the payment's own texts.
+-- Assumes nothing.
+use Prim.Native.Nat.{ℕ, zero, suc, _+_, _-_}
+use native.Mathlib.Nat.{add-zero, add-sub-cancel-left}
+use native.Mathlib.Omega.{arith}
+use mathlib.Core.Path.{_≡_, refl, ap, subst, _∙_}
+use mathlib.Core.Logic.{_≢_}
+use mathlib.Core.Bool.{Bool, true, false}
+use mathlib.Core.List.{List, []}
+use mathlib.Core.Option.{some}
+use lib.ListN.{length, take, drop, getElem?}
+use lib.Dec.{eqb}
+use lib.Seq.{take-all}
+use borrow.Author.Tests.{eqb-false}
+use denote.Ref.{RefT, now}
+use Rattle.rules.specs.Values.{Payment}
+use Rattle.rules.specs.Writing.{Acceptable}
+use Rattle.fields.specs.Answers.{refusalOf}
+use Rattle.spots.specs.declared.Wanted.{Wanted}
+use Rattle.spots.specs.declared.Spot.{Spot}
+use Rattle.spots.specs.Texts.{textOf, textWidth, placeOf}
+use Rattle.spots.specs.Spots.{standing, findAt, locateAt}
+use Rattle.spots.proofs.Answers.{find-refuses, locate-refuses, startOf, PaymentIs, payment-is}
+use Rattle.view.specs.declared.View.{View}
+use Rattle.view.specs.declared.Made.{Made}
+use Rattle.view.specs.declared.Handed.{Handed}
+use Rattle.view.specs.Views.{IsMade, IsHanded, bytesOf, textAt, IsText, ifNone, firstOf, refusalFor}
+
+-- ---- what a refusal gives back
+
+-- no bytes are cut out of no bytes
+nothing-cut : (a b : ℕ) → _≡_ {A = List ℕ} (take a (drop b [])) []
+nothing-cut zero b = refl
+nothing-cut (suc a) zero = refl
+nothing-cut (suc a) (suc b) = refl
+
+-- a view of no bytes, with start 0
+pub refused-view : (s : RefT (List ℕ)) (n : ℕ) (m : Made) → IsMade s (findAt (now s) n) m → m .number ≢ 0
+    → (now (m .view .file) ≡ []) × (m .view .start ≡ 0)
+refused-view s n m promised nonzero =
+    let e = subst (λ z. IsMade s z m) (find-refuses (now s) n (λ z. nonzero (promised .2 ∙ z))) promised in
+    (e .0 .0, e .1)
+
+-- an empty text, whatever the view
+pub refused-text : (v : View) (w : Wanted) (h : Handed) → IsHanded (v .file) (locateAt (now (v .file)) (v .start) w) h → h .number ≢ 0 → now (h .text) ≡ []
+refused-text v w h promised nonzero =
+    let r = locate-refuses (now (v .file)) (v .start) w (λ z. nonzero (promised .1 ∙ z)) in
+    subst (λ z. IsHanded (v .file) z h) r promised .0 .0
+
+-- the same without a view that is kept, whichever of the two is refused
+pub no-text-of : (s : RefT (List ℕ)) (n : ℕ) (w : Wanted) (r : RefT (List ℕ)) → IsText s n w r → refusalFor (now s) n w .number ≢ 0 → now r ≡ []
+unfolding firstOf
+no-text-of s n w r promised nonzero = by (eqb (findAt (now s) n .number) 0) refl
+  where
+    by : (b : Bool) → eqb (findAt (now s) n .number) 0 ≡ b → now r ≡ []
+    by true e =
+        let why : refusalFor (now s) n w .number ≡ textAt (now s) n w .number
+        = ap (λ b. ifNone b (refusalOf (findAt (now s) n .number) (findAt (now s) n .place)) (refusalOf (textAt (now s) n w .number) (textAt (now s) n w .place)) .number) e in
+        let p = locate-refuses (bytesOf (now s) n) (findAt (now s) n .from) w (λ z. nonzero (why ∙ z)) in
+        promised .0 ∙ ap (λ (z : Spot). take (z .to - z .from) (drop (z .from) (bytesOf (now s) n))) p
+    by false e =
+        let p = find-refuses (now s) n (eqb-false (findAt (now s) n .number) 0 e) in
+        let b : bytesOf (now s) n ≡ [] = ap (λ (z : Spot). take (z .to) (now s)) p in
+        let spot = textAt (now s) n w in
+        promised .0 ∙ ap (λ f. take (spot .to - spot .from) (drop (spot .from) f)) b ∙ nothing-cut (spot .to - spot .from) (spot .from)
+
+-- ---- what is given back of payment n, where it is p
+
+-- all of the bytes
+whole : (f : List ℕ) → take (length f - 0) (drop 0 f) ≡ f
+whole f = let e : length f - 0 ≡ length f = omega arith in ap (λ n. take n f) e ∙ take-all (length f) f (omega arith)
+
+module _ (s : RefT (List ℕ)) (x : Acceptable (now s)) (n : ℕ) (p : Payment) (is : getElem? (x .0 .payments) n ≡ some p) where
+  abbrev start : ℕ
+  start = startOf (now s) x n p is
+
+  it : PaymentIs (now s) x n p start
+  it = payment-is (now s) x n p is
+
+  -- a view with 0 at 0, of the whole file itself, and with the payment's start
+  pub record ViewIs (m : Made) : Type 0 where
+    pub number : m .number ≡ 0
+    pub place : m .place ≡ 0
+    pub bytes : now (m .view .file) ≡ now s
+    pub memory : m .view .file .ptr .0 ≡ s .ptr .0
+    pub offset : m .view .file .ptr .1 ≡ s .ptr .1
+    pub begins : m .view .start ≡ start
+
+  pub view-is : (m : Made) → IsMade s (findAt (now s) n) m → ViewIs m
+  view-is m promised =
+      let e = subst (λ z. IsMade s z m) (it .found) promised in
+      record { number = e .2; place = e .3; bytes = e .0 .0 ∙ whole (now s); memory = e .0 .1; offset = e .0 .2 ∙ add-zero (s .ptr .1); begins = e .1 }
+
+  -- the text itself: 0 at 0, its bytes, and that stretch of the file itself
+  pub record TextIs (w : Wanted) (t : List ℕ) (r : RefT (List ℕ)) : Type 0 where
+    pub bytes : now r ≡ t
+    pub memory : r .ptr .0 ≡ s .ptr .0
+    pub offset : r .ptr .1 ≡ s .ptr .1 + (start + placeOf w)
+
+  module _ (w : Wanted) (t : List ℕ) (has : textOf w p ≡ some t) where
+    cut : take (start + placeOf w + textWidth - (start + placeOf w)) (drop (start + placeOf w) (now s)) ≡ t
+    cut = ap (λ k. take k (drop (start + placeOf w) (now s))) (add-sub-cancel-left (start + placeOf w) textWidth) ∙ it .text-bytes w t has
+
+    -- a hand-out of the view that was made
+    pub texts-are : (m : Made) → IsMade s (findAt (now s) n) m → (h : Handed) → IsHanded (m .view .file) (locateAt (now (m .view .file)) (m .view .start) w) h
+        → (h .number ≡ 0) × ((h .place ≡ 0) × TextIs w t (h .text))
+    texts-are m made h handed =
+        let v = view-is m made in
+        let spot = ap (λ f. locateAt f (m .view .start) w) (v .bytes) ∙ ap (λ q. locateAt (now s) q w) (v .begins) ∙ it .text w t has in
+        let e = subst (λ z. IsHanded (m .view .file) z h) spot handed in
+        let at = start + placeOf w in
+        let bytes = e .0 .0 ∙ ap (λ f. take (at + textWidth - at) (drop at f)) (v .bytes) ∙ cut in
+        (e .1, (e .2, record { bytes = bytes; memory = e .0 .1 ∙ v .memory; offset = e .0 .2 ∙ ap (λ o. o + at) (v .offset) }))
+
+    view-bytes : bytesOf (now s) n ≡ now s
+    view-bytes = ap (λ (z : Spot). take (z .to) (now s)) (it .found) ∙ take-all (length (now s)) (now s) (omega arith)
+
+    spot-is : textAt (now s) n w ≡ standing (start + placeOf w) (start + placeOf w + textWidth)
+    spot-is = ap (λ f. locateAt f (findAt (now s) n .from) w) view-bytes ∙ ap (λ (z : Spot). locateAt (now s) (z .from) w) (it .found) ∙ it .text w t has
+
+    -- the same, without a view that is kept
+    pub text-is : (r : RefT (List ℕ)) → IsText s n w r → TextIs w t r
+    text-is r e =
+        let p = spot-is in
+        let bytes = e .0 ∙ (λ j. take (p j .to - p j .from) (drop (p j .from) (view-bytes j))) ∙ cut in
+        record { bytes = bytes; memory = e .1; offset = e .2 ∙ ap (λ (z : Spot). s .ptr .1 + z .from) p }
+
+    pub not-refused : refusalFor (now s) n w ≡ refusalOf 0 0
+    unfolding firstOf
+    not-refused = let p = spot-is in λ j. firstOf (it .found j .number) (it .found j .place) (p j .number) (p j .place)
