@@ -84,7 +84,8 @@ def lengthened(document: Document, length: int) -> Document:
 def lengths(rng: Random) -> Iterator[Input]:
     """Inputs and outputs of exactly the programs' limits, and beyond them."""
     # The last of these is longer than dtprobe takes.
-    for count in (PAYMENTS_IN_INPUT - 1, PAYMENTS_IN_INPUT, PAYMENTS_IN_INPUT + 1, PAYMENTS_IN_OUTPUT + 1):
+    for count in (PAYMENTS_IN_INPUT - 1, PAYMENTS_IN_INPUT, PAYMENTS_IN_INPUT + 1, PAYMENTS_IN_OUTPUT,
+                  PAYMENTS_IN_OUTPUT + 1):
         yield valid_input(f"file of {count} payments", Form.FILE, short_document(rng, [1] * count))
     full = short_document(rng, [1] * PAYMENTS_IN_INPUT)
     for more in (1, 2, 256):

@@ -109,7 +109,6 @@ class TestComparing(unittest.TestCase):
         self.assertTrue(self.program_failed(damaged, b"killed\n", b"killed\n"))
         self.assertTrue(self.program_failed(damaged, b"", b""))
 
-
     def view_failed(self, request: Request, ours: bytes, second: bytes) -> bool:
         family = self.family(Prepared({}, ours), Prepared({}, second))
         family.compare_batch([Asked(0, FILE_OF_M, [request])])

@@ -1,4 +1,4 @@
-"""Tests of the generator itself: the model of case M, the orders of marks, the same inputs for a seed."""
+"""Tests of the generator: the model, the orders of marks, the same inputs for a seed, what is asked for."""
 
 import unittest
 from collections import Counter
@@ -11,7 +11,7 @@ from .case_m import CASE_M
 from .document import Document
 from .families import FIRST_FAMILIES, family, valid_shapes
 from .inputs import Form, Input, valid_input
-from .layout import TEXT_SIGNS, length_of_payment, payment_fields, text_name, width_of
+from .layout import MOST_PARTS, TEXT_SIGNS, length_of_payment, payment_fields, text_name, width_of
 from .lending import requests_for
 from .requests import (
     CHECK, FIND, HAND, HIGHEST, NAME_OF_CALL, TEXT_OF_FIELD, VIEW, Request, asked_text,
@@ -155,19 +155,21 @@ class TestFamilies(unittest.TestCase):
 
 CALLS_OF_VIEW = (FIND, HAND, VIEW)
 # What may be asked for. Where two of them are the same, the dictionaries below name the one that comes later.
-NUMBERS = ("the first", "the last", "another", "the count", "the count and one", "the highest")
-STARTS = (
-    "the first", "the last", "another", "a byte before", "a byte behind", "a later section", "inside", "of A",
-    "of E", "the end", "beyond the end", "the highest",
+NUMBERS = (
+    "the first", "the last", "another", "the count", "the count and one", "0 in 16 bits", "the highest",
 )
-PARTS = ("0", "the first", "the last", "another", "one more", "15", "16", "the highest")
+STARTS = (
+    "the first", "the last", "another", "a byte before", "a byte behind", "a later section", "inside",
+    "of A", "of E", "the end", "beyond the end", "a start in 16 bits", "the highest",
+)
+PARTS = ("0", "the first", "the last", "another", "one more", "15", "16", "1 in 16 bits", "the highest")
 
 
 def kind_of_number(document: Document, n: int) -> str:
     count = len(document.payments)
     kinds = {
         count - 1: "the last", 0: "the first", count: "the count", count + 1: "the count and one",
-        HIGHEST: "the highest",
+        65_536: "0 in 16 bits", HIGHEST: "the highest",
     }
     return kinds.get(n, "another")
 
@@ -177,6 +179,7 @@ def kind_of_start(document: Document, start: int) -> str:
     kinds = {place - 1: "a byte before" for place in starts}
     kinds |= {place + 1: "a byte behind" for place in starts} | dict.fromkeys(starts, "another")
     kinds |= {starts[-1]: "the last", starts[0]: "the first"}
+    kinds |= {place + 65_536: "a start in 16 bits" for place in starts}
     kinds |= {0: "of A", end - 128: "of E", end: "the end", HIGHEST: "the highest"}
     if start not in kinds and start < end:
         return "inside" if start % 128 else "a later section"
@@ -185,7 +188,7 @@ def kind_of_start(document: Document, start: int) -> str:
 
 def kind_of_part(most: int, part: int) -> str:
     kinds = {15: "15", 16: "16", 1: "the first", most: "the last", most + 1: "one more", 0: "0"}
-    return (kinds | {HIGHEST: "the highest"}).get(part, "another")
+    return (kinds | {65_537: "1 in 16 bits", HIGHEST: "the highest"}).get(part, "another")
 
 
 def kinds_of(document: Document, request: Request) -> list[str]:
@@ -220,6 +223,17 @@ class TestViewRequests(unittest.TestCase):
         wanted |= {f"{call} part: {kind}" for call in ("hand", "view") for kind in PARTS}
         self.assertEqual(set(met), wanted)
         self.assertGreaterEqual(min(met.values()), OFTEN)
+
+    def test_every_text_is_handed_out(self) -> None:
+        rng = Random(9)
+        files = [given for given in valid_shapes(rng) if given.form is Form.FILE]
+        asked = (request for given in files for request in requests_for(rng, given))
+        handed = {
+            (request.call, asked_text(*request.numbers[1:3])) for request in asked
+            if request.call in (HAND, VIEW) and (request.expected or b"").startswith(b"0\t0\t")
+        }
+        texts = [*TEXT_OF_FIELD.values(), *(text_name(part) for part in range(1, MOST_PARTS + 1))]
+        self.assertEqual(handed, {(call, text) for call in (HAND, VIEW) for text in texts})
 
     def test_the_model_answers_for_valid_files(self) -> None:
         given = valid_input("valid", Form.FILE, document_of(Random(6), b"LB", list(MARK_ORDERS[:9])))

@@ -5,11 +5,11 @@ from random import Random
 
 from . import expected
 from .document import Document, Payment
-from .inputs import Form, Input
+from .inputs import Input
 from .layout import MOST_PARTS, SECTION
 from .requests import FIND, HAND, HIGHEST, TEXT_OF_FIELD, VIEW, Request, asked_text
 
-# The payments of a valid file that are asked for: the first, the last and so many others.
+# The payments of a valid file that are asked for: the first, the last and at most so many others.
 OTHER_PAYMENTS = 4
 # For each of them, how many texts: at its start, at starts of no payment, by its number, by numbers that no
 # payment has.
@@ -18,6 +18,8 @@ AT_START, AT_OTHER_STARTS, BY_NUMBER, BY_OTHER_NUMBERS = 5, 3, 4, 1
 FIELDS = (*TEXT_OF_FIELD, 0, 1, 13, 17, 114, HIGHEST)
 # Stands where a call of the view looks at no number: it must be no length of anything lent.
 UNUSED = HIGHEST
+# Added to a number, it leaves the lower 16 bits as they are.
+BEYOND_16_BITS = 1 << 16
 # How far behind the end of a file a start may lie.
 MOST_BEYOND = 2 * SECTION
 
@@ -60,13 +62,17 @@ def beyond_the_end(rng: Random, document: Document) -> int:
     return len(document.file.data) + rng.randint(1, MOST_BEYOND)
 
 
+def beyond_16_bits(rng: Random, document: Document) -> int:
+    return rng.choice(document.starts) + BEYOND_16_BITS
+
+
 def highest(rng: Random, document: Document) -> int:
     return HIGHEST
 
 
 OTHER_STARTS: tuple[Start, ...] = (
     beside_a_start, inside_a_payment, later_section, start_of_header, start_of_trailer, end_of_file,
-    beyond_the_end, highest,
+    beyond_the_end, beyond_16_bits, highest,
 )
 
 
@@ -84,7 +90,7 @@ def some_number(rng: Random, document: Document) -> int:
 def other_numbers(document: Document) -> tuple[int, ...]:
     """Numbers that no payment has, as they count from 0."""
     count = len(document.payments)
-    return (count, count + 1, HIGHEST)
+    return (count, count + 1, BEYOND_16_BITS, HIGHEST)
 
 
 def some_text(rng: Random, payment: Payment) -> Text:
@@ -95,27 +101,23 @@ def some_text(rng: Random, payment: Payment) -> Text:
 def parts(rng: Random, payment: Payment) -> tuple[int, ...]:
     """Parts, counted from 1: the first, the last, any; those beside them; the most that there may be."""
     count = len(payment.parts)
-    return (0, 1, count, count + 1, rng.randint(1, max(count, 1)), MOST_PARTS, MOST_PARTS + 1, HIGHEST)
+    any_part = rng.randint(1, max(count, 1))
+    return (0, 1, count, count + 1, any_part, MOST_PARTS, MOST_PARTS + 1, BEYOND_16_BITS + 1, HIGHEST)
 
 
 def find_request(given: Input, n: int) -> Request:
-    answer = expected.found(given.base, n) if is_known(given) else None
+    answer = expected.found(given.base, n) if given.valid else None
     return Request(FIND, given.data, (n, UNUSED, UNUSED, UNUSED), expected=answer)
 
 
 def hand_request(given: Input, start: int, text: Text) -> Request:
-    answer = expected.handed(given.base, start, asked_text(*text)) if is_known(given) else None
+    answer = expected.handed(given.base, start, asked_text(*text)) if given.valid else None
     return Request(HAND, given.data, (start, *text, UNUSED), expected=answer)
 
 
 def view_request(given: Input, n: int, text: Text) -> Request:
-    answer = expected.viewed(given.base, n, asked_text(*text)) if is_known(given) else None
+    answer = expected.viewed(given.base, n, asked_text(*text)) if given.valid else None
     return Request(VIEW, given.data, (n, *text, UNUSED), expected=answer)
-
-
-def is_known(given: Input) -> bool:
-    """Whether the model has the answer: to a listing, which is no file, it has none."""
-    return given.valid and given.form is Form.FILE
 
 
 def view_requests(rng: Random, given: Input) -> list[Request]:
@@ -126,7 +128,15 @@ def view_requests(rng: Random, given: Input) -> list[Request]:
     requests = [find_request(given, n) for n in (*chosen, *other_numbers(document))]
     for number in chosen:
         requests += text_requests(rng, given, number)
-    return requests
+    return requests + every_text(given, some_number(rng, document))
+
+
+def every_text(given: Input, number: int) -> list[Request]:
+    """All texts that one payment of a valid file has, at its start and by its number."""
+    start, payment = given.base.starts[number], given.base.payments[number]
+    texts = [(field, 0) for field in TEXT_OF_FIELD] + [(0, part + 1) for part in range(len(payment.parts))]
+    return [request for text in texts for request in
+            (hand_request(given, start, text), view_request(given, number, text))]
 
 
 def text_requests(rng: Random, given: Input, number: int) -> list[Request]:

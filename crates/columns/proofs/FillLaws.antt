@@ -83,6 +83,19 @@ fill-start f c4 c5 c12 start =
 
 -- ---- a row
 
+-- no payment is empty
+pub some-bytes : (x : Payment) → 0 < length (writePayment x)
+some-bytes x =
+    let c1 = numeral 4 (lengthOf (length (x .parts))) in
+    omega (arith, length-append c1 (writeBody x), numeral-length 4 (lengthOf (length (x .parts))))
+
+module _ {f : List ℕ} {p : ℕ} {x : Payment} {xs : List Payment} (c : Coming f p (x ∷ xs)) where
+  pub others-coming : Coming f (p + length (writePayment x)) xs
+  others-coming = record { kind = c .kind; legal = c .legal .1; stand = behind-first (c .stand) refl }
+
+  pub first-ends : p + length (writePayment x) ≤ length f
+  first-ends = first-inside (c .stand) refl (some-bytes x)
+
 -- the first payment still to come, at p: what its row reads, how many bytes its length tells, and the payments behind it
 pub record First (f : List ℕ) (p : ℕ) (left : List Payment) : Type 0 where
   pub payment : Payment
@@ -105,8 +118,8 @@ first-of (x ∷ xs) c h =
       row = r;
       bytes = λ e. bytes-told x (c .legal .0) (e ∙ r .lengthField .value);
       bounds = λ e. length-bounds x (c .legal .0) (e ∙ r .lengthField .value);
-      inside = first-inside (c .stand) refl (omega (arith, length-append (numeral 4 (lengthOf (length (x .parts)))) (writeBody x), numeral-length 4 (lengthOf (length (x .parts)))));
-      next = record { kind = c .kind; legal = c .legal .1; stand = behind-first (c .stand) refl };
+      inside = first-ends c;
+      next = others-coming c;
     }
 
 module _ {f : List ℕ} {all : List Payment} {c4₀ c5₀ c12₀ start₀ c4 c5 c12 start : List ℕ} {i p : ℕ} (r : Filling f all c4₀ c5₀ c12₀ start₀ c4 c5 c12 start i p) where

@@ -19,6 +19,12 @@ is-some e = cc
 not-some : {A : Type 0} {x : A} → _≡_ {A = Option A} none (some x) → ⊥
 not-some e = zero-one cc
 
+-- an element of a list stands there too where more follows
+in-front : (l rest : List ℕ) (i : ℕ) {v : ℕ} → getElem? l i ≡ some v → getD (l ++ rest) i 0 ≡ v
+in-front [] rest i e = absurd (not-some e)
+in-front (x ∷ xs) rest zero e = is-some e
+in-front (x ∷ xs) rest (suc i) e = in-front xs rest i e
+
 -- payment i is p
 module _ (p : Payment) where
   pub row-of : (g : Payment → ℕ) (ps : List Payment) (i : ℕ) (rest : List ℕ) → getElem? ps i ≡ some p → getD (map g ps ++ rest) i 0 ≡ g p
@@ -27,14 +33,17 @@ module _ (p : Payment) where
   row-of g (x ∷ xs) (suc i) rest e = row-of g xs i rest e
 
   -- it begins behind the payments before it
+  pub start-there : (q : ℕ) (ps : List Payment) (i : ℕ) → getElem? ps i ≡ some p → getElem? (startsFrom q ps) i ≡ some (q + length (writePayments (take i ps)))
+  start-there q [] i e = absurd (not-some e)
+  start-there q (x ∷ xs) zero e = ap (λ (n : ℕ). some n) (sym (add-zero q))
+  start-there q (x ∷ xs) (suc i) e =
+      let before = writePayments (take i xs) in
+      start-there (q + length (writePayment x)) xs i e
+      ∙ ap (λ (n : ℕ). some n) (add-assoc q (length (writePayment x)) (length before) ∙ ap (λ n. q + n) (sym (length-append (writePayment x) before)))
+
   pub start-of : (q : ℕ) (ps : List Payment) (i : ℕ) (rest : List ℕ) → getElem? ps i ≡ some p
       → getD (startsFrom q ps ++ rest) i 0 ≡ q + length (writePayments (take i ps))
-  start-of q [] i rest e = absurd (not-some e)
-  start-of q (x ∷ xs) zero rest e = sym (add-zero q)
-  start-of q (x ∷ xs) (suc i) rest e =
-      start-of (q + length (writePayment x)) xs i rest e
-      ∙ add-assoc q (length (writePayment x)) (length (writePayments (take i xs)))
-      ∙ ap (λ n. q + n) (sym (length-append (writePayment x) (writePayments (take i xs))))
+  start-of q ps i rest e = in-front (startsFrom q ps) rest i (start-there q ps i e)
 
   -- the payments before it, it, and the payments behind it
   pub around : (ps : List Payment) (i : ℕ) → getElem? ps i ≡ some p

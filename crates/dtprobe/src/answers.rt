@@ -1,12 +1,11 @@
 // The call that a request asks for: one function for each, which reads what is lent beside the input, makes the call and prints its answer.
 use crate::printing;
 use crate::requests::HEAD;
+use crate::requests::head_number;
 use crate::requests::index_at;
 use crate::requests::read_bytes;
 use crate::requests::read_rows;
-use crate::requests::size_at;
 use crate::requests::wanted;
-use spots::Wanted;
 
 // The most rows of a column.
 const MOST_ROWS: usize = 256;
@@ -32,14 +31,14 @@ fn load(head: &[u8; HEAD], input: &[u8]) -> bool {
     let mut c5 = [0u64; MOST_ROWS];
     let mut c12 = [0u64; MOST_ROWS];
     let mut start = [0u64; MOST_ROWS];
-    let a = read_rows(&mut c4, size_at(head, 1));
-    let b = read_rows(&mut c5, size_at(head, 2));
-    let c = read_rows(&mut c12, size_at(head, 3));
-    let d = read_rows(&mut start, size_at(head, 4));
-    let is_whole = (a == size_at(head, 1))
-        & (b == size_at(head, 2))
-        & (c == size_at(head, 3))
-        & (d == size_at(head, 4));
+    let a = read_rows(&mut c4, head_number(head, 1));
+    let b = read_rows(&mut c5, head_number(head, 2));
+    let c = read_rows(&mut c12, head_number(head, 3));
+    let d = read_rows(&mut start, head_number(head, 4));
+    let is_whole = (a == head_number(head, 1))
+        & (b == head_number(head, 2))
+        & (c == head_number(head, 3))
+        & (d == head_number(head, 4));
     if !is_whole {
         return false;
     }
@@ -61,16 +60,17 @@ fn find(head: &[u8; HEAD], input: &[u8]) -> bool {
 }
 
 // Where a text stands of the payment that begins at a start.
-fn hand(head: &[u8; HEAD], input: &[u8]) -> bool {
+fn locate(head: &[u8; HEAD], input: &[u8]) -> bool {
     let spot = spots::locate(input, index_at(head, 1), wanted(head));
     printing::spot(spot);
     true
 }
 
 // A view of a payment is made, and a text handed out of it.
-fn view_of(n: usize, w: Wanted, input: &[u8]) -> bool {
-    let why = view::refusal_of(input, n, w);
-    let text = view::text_of(input, n, w);
+fn view_of(head: &[u8; HEAD], input: &[u8]) -> bool {
+    let n = index_at(head, 1);
+    let why = view::refusal_of(input, n, wanted(head));
+    let text = view::text_of(input, n, wanted(head));
     printing::text(why, text);
     true
 }
@@ -87,7 +87,7 @@ fn write_into(composes: bool, input: &[u8], out: &mut [u8]) {
 }
 
 fn write(head: &[u8; HEAD], composes: bool, input: &[u8], out: &mut [u8]) -> bool {
-    let room = size_at(head, 1);
+    let room = head_number(head, 1);
     let m = read_bytes(out, room);
     if m != room {
         return false;
@@ -109,10 +109,10 @@ pub(crate) fn call(head: &[u8; HEAD], input: &[u8], out: &mut [u8]) -> bool {
         return find(head, input);
     }
     if letter == b'H' {
-        return hand(head, input);
+        return locate(head, input);
     }
     if letter == b'V' {
-        return view_of(index_at(head, 1), wanted(head), input);
+        return view_of(head, input);
     }
     if letter == b'P' {
         return write(head, false, input, out);

@@ -10,10 +10,10 @@ mod requests;
 
 // Reads the input that the head line announces and makes the call on it. Answers whether the request was whole and within its limits.
 fn answer(head: &[u8; HEAD], input: &mut [u8], out: &mut [u8]) -> bool {
-    if !requests::has_sizes(head) {
+    if !requests::has_numbers(head) {
         return false;
     }
-    let size = requests::size_at(head, 0);
+    let size = requests::head_number(head, 0);
     let n = requests::read_bytes(input, size);
     if n != size {
         return false;

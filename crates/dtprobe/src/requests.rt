@@ -8,16 +8,16 @@ use spots::Wanted;
 pub(crate) const HEAD: usize = 37;
 
 // How many numbers it has, where they begin, and how far they stand apart.
-const SIZES: usize = 5;
+const NUMBERS: usize = 5;
 
-const FIRST_SIZE: usize = 2;
+const FIRST_NUMBER: usize = 2;
 
-const SIZE_STEP: usize = 7;
+const NUMBER_STEP: usize = 7;
 
-const SIZE_DIGITS: usize = 6;
+const NUMBER_DIGITS: usize = 6;
 
-// More than any slice has.
-const NO_SIZE: usize = 1000000;
+// More than six digits can tell.
+const NO_NUMBER: usize = 1000000;
 
 // The largest number of six digits.
 const LARGEST: usize = 999999;
@@ -25,30 +25,30 @@ const LARGEST: usize = 999999;
 // The digits of a row.
 const ROW: usize = 17;
 
-// Number i of a head line, from 0. Where there are no six digits it is more than any slice has.
-pub(crate) fn size_at(head: &[u8; HEAD], i: usize) -> usize {
-    if i >= SIZES {
-        return NO_SIZE;
+// Number i of a head line, from 0; NO_NUMBER where there are no six digits.
+pub(crate) fn head_number(head: &[u8; HEAD], i: usize) -> usize {
+    if i >= NUMBERS {
+        return NO_NUMBER;
     }
-    let read = fields::number_at(head, FIRST_SIZE + SIZE_STEP * i, SIZE_DIGITS);
-    let Number::Is(size, _) = read else {
-        return NO_SIZE;
+    let read = fields::number_at(head, FIRST_NUMBER + NUMBER_STEP * i, NUMBER_DIGITS);
+    let Number::Is(n, _) = read else {
+        return NO_NUMBER;
     };
-    size as usize
+    n as usize
 }
 
 // Whether the head line has its five numbers.
-pub(crate) fn has_sizes(head: &[u8; HEAD]) -> bool {
-    (size_at(head, 0) < NO_SIZE)
-        & (size_at(head, 1) < NO_SIZE)
-        & (size_at(head, 2) < NO_SIZE)
-        & (size_at(head, 3) < NO_SIZE)
-        & (size_at(head, 4) < NO_SIZE)
+pub(crate) fn has_numbers(head: &[u8; HEAD]) -> bool {
+    (head_number(head, 0) < NO_NUMBER)
+        & (head_number(head, 1) < NO_NUMBER)
+        & (head_number(head, 2) < NO_NUMBER)
+        & (head_number(head, 3) < NO_NUMBER)
+        & (head_number(head, 4) < NO_NUMBER)
 }
 
 // Number i of a head line that is no length: the largest there is stands for the largest of all.
 pub(crate) fn index_at(head: &[u8; HEAD], i: usize) -> usize {
-    let n = size_at(head, i);
+    let n = head_number(head, i);
     if n == LARGEST {
         return usize::MAX;
     }
@@ -57,7 +57,7 @@ pub(crate) fn index_at(head: &[u8; HEAD], i: usize) -> usize {
 
 // Which text the head line names: a field by its number, else a part.
 pub(crate) fn wanted(head: &[u8; HEAD]) -> Wanted {
-    let field = size_at(head, 2);
+    let field = head_number(head, 2);
     if field == 14 {
         return Wanted::C14a;
     }

@@ -19,14 +19,22 @@ use Rattle.rules.proofs.Demand3.{accepted-exactly, accepted-reading}
 use Rattle.columns.specs.Columns.{starts}
 use Rattle.columns.specs.Loading.{paymentsOf}
 use Rattle.columns.proofs.FillLaws.{length-starts}
-use Rattle.columns.proofs.RowLaws.{stands-at}
+use Rattle.columns.proofs.RowLaws.{start-there, stands-at}
 use Rattle.pen.proofs.CellLaws.{beyond}
 use Rattle.spots.specs.declared.Wanted.{Wanted}
 use Rattle.spots.specs.declared.Spot.{Spot}
 use Rattle.spots.specs.Texts.{textOf, textWidth, placeOf, begunAt}
 use Rattle.spots.specs.Spots.{refusing, standing, refusedAs, noSuch, fromStart, finding, findAt, ifText, ifBegun, locating, locateAt}
-use Rattle.spots.proofs.BegunLaws.{start-there, begun-at-start, none-at, begun-there}
+use Rattle.spots.proofs.BegunLaws.{begun-at-start, start-begun, none-at, begun-there}
 use Rattle.spots.proofs.TextLaws.{text-stands}
+
+-- ---- one answer
+
+pub one-found : (file : List ℕ) (n : ℕ) (x y : Spot) → x ≡ findAt file n → y ≡ findAt file n → x ≡ y
+one-found file n x y e f = e ∙ sym f
+
+pub one-located : (file : List ℕ) (start : ℕ) (w : Wanted) (x y : Spot) → x ≡ locateAt file start w → y ≡ locateAt file start w → x ≡ y
+one-located file start w x y e f = e ∙ sym f
 
 -- ---- where things stand
 
@@ -111,7 +119,7 @@ module _ (file : List ℕ) where
 
       begun : begunAt startOf ps ≡ some p
       unfolding begunAt
-      begun = begun-at-start 128 ps n startOf p (start-there 128 ps n p is) is
+      begun = begun-at-start 128 ps n startOf p (start-there p 128 ps n is) is
 
       located : (w : Wanted) → locateAt file startOf w ≡ ifText (textOf w p) (startOf + placeOf w)
       located w = located-as startOf w ∙ ap (λ o. ifBegun o startOf w) begun
@@ -125,7 +133,7 @@ module _ (file : List ℕ) where
           record {
             ahead = s .0;
             bytes = s .1;
-            found = found-as n ∙ ap (λ o. fromStart o (length file)) (start-there 128 ps n p is);
+            found = found-as n ∙ ap (λ o. fromStart o (length file)) (start-there p 128 ps n is);
             text = λ w t e. located w ∙ ap (λ o. ifText o (startOf + placeOf w)) e;
             text-bytes = λ w t e. text-stands p (b .legal) (b .stand) w t e .bytes;
             no-text = λ w e. located w ∙ ap (λ o. ifText o (startOf + placeOf w)) e;
@@ -133,7 +141,7 @@ module _ (file : List ℕ) where
 
 -- ---- when something is found
 
-nineteen : _≡_ {A = ℕ} 19 0 → ⊥
+pub nineteen : _≡_ {A = ℕ} 19 0 → ⊥
 nineteen e = omega arith
 
 module _ (file : List ℕ) where
@@ -151,13 +159,21 @@ module _ (file : List ℕ) where
       begun x none e z = absurd (nineteen (sym (ap (λ (p : Spot). p .number) (found-as file x n ∙ ap (λ o. fromStart o (length file)) e)) ∙ z))
       begun x (some q) e z = (x, q, e)
 
-  -- a text: exactly in those where a payment begins there and has it
-  pub locates-exactly : (start : ℕ) (w : Wanted) → (locateAt file start w .number ≡ 0)
-      ↔ ((x : Acceptable file) × (p : Payment) × (t : List ℕ) × (begunAt start (x .0 .payments) ≡ some p) × (textOf w p ≡ some t))
-  unfolding locateAt locating
+  -- a text: exactly in those where payment n, for some n, begins there and has it
+  pub record TextThere (start : ℕ) (w : Wanted) : Type 0 where
+    pub acceptable : Acceptable file
+    pub n : ℕ
+    pub payment : Payment
+    pub text : List ℕ
+    pub is : getElem? (acceptable .0 .payments) n ≡ some payment
+    pub begins : getElem? (starts (acceptable .0 .payments)) n ≡ some start
+    pub has : textOf w payment ≡ some text
+
+  pub locates-exactly : (start : ℕ) (w : Wanted) → (locateAt file start w .number ≡ 0) ↔ TextThere start w
+  unfolding locateAt locating begunAt
   locates-exactly start w = (
     λ z. let x = by (answer file) refl z in begun x _ refl z,
-    λ y. ap (λ (p : Spot). p .number) (as-begun (y .0) (y .3) ∙ ap (λ o. ifText o (start + placeOf w)) (y .4)),
+    λ y. let b = begun-at-start 128 (y .acceptable .0 .payments) (y .n) start (y .payment) (y .begins) (y .is) in ap (λ (p : Spot). p .number) (as-begun (y .acceptable) b ∙ ap (λ o. ifText o (start + placeOf w)) (y .has)),
   )
     where
       by : (a : Answer Name Document) → answer file ≡ a → locating a start w .number ≡ 0 → Acceptable file
@@ -168,12 +184,12 @@ module _ (file : List ℕ) where
       as-begun x e = located-as file x start w ∙ ap (λ o. ifBegun o start w) e
 
       there : (x : Acceptable file) (p : Payment) → begunAt start (x .0 .payments) ≡ some p → (o : Option (List ℕ)) → textOf w p ≡ o
-          → locateAt file start w .number ≡ 0
-          → (x : Acceptable file) × (p : Payment) × (t : List ℕ) × (begunAt start (x .0 .payments) ≡ some p) × (textOf w p ≡ some t)
+          → locateAt file start w .number ≡ 0 → TextThere start w
       there x p b none e z = absurd (nineteen (sym (ap (λ (p : Spot). p .number) (as-begun x b ∙ ap (λ o. ifText o (start + placeOf w)) e)) ∙ z))
-      there x p b (some t) e z = (x, p, t, b, e)
+      there x p b (some t) e z =
+          let i = start-begun 128 (x .0 .payments) start p b in
+          record { acceptable = x; n = i .0; payment = p; text = t; is = i .2; begins = i .1; has = e }
 
-      begun : (x : Acceptable file) (o : Option Payment) → begunAt start (x .0 .payments) ≡ o → locateAt file start w .number ≡ 0
-          → (x : Acceptable file) × (p : Payment) × (t : List ℕ) × (begunAt start (x .0 .payments) ≡ some p) × (textOf w p ≡ some t)
+      begun : (x : Acceptable file) (o : Option Payment) → begunAt start (x .0 .payments) ≡ o → locateAt file start w .number ≡ 0 → TextThere start w
       begun x none e z = absurd (nineteen (sym (ap (λ (p : Spot). p .number) (as-begun x e)) ∙ z))
       begun x (some p) e z = there x p e (textOf w p) refl z

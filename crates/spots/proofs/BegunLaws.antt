@@ -1,27 +1,26 @@
 -- Payments that stand in a file one after another: where each begins, which begins at a start, and which texts it has.
 -- Assumes nothing.
 use Prim.Native.Nat.{ℕ, zero, suc, _+_, _≤_, _<_}
-use native.Mathlib.Nat.{add-zero, add-assoc}
 use native.Mathlib.Omega.{arith}
 use mathlib.Core.Path.{_≡_, refl, sym, ap, subst, _∙_}
 use mathlib.Core.Bool.{Bool, true, false, _&&_, cond}
 use mathlib.Core.List.{List, [], _∷_}
 use mathlib.Core.Option.{Option, none, some, Option·some-injective, Option·none-ne-some}
-use lib.ListN.{length, take, getElem?, length-append}
+use lib.ListN.{length, getElem?}
 use lib.Dec.{T, leb, eqb}
 use borrow.Author.Tests.{eqb-true, eqb-false, eq-eqb, ne-eqb, le-leb, leb-true, leb-false}
 use Rattle.rules.specs.Values.{Part, Payment}
-use Rattle.rules.specs.Writing.{writePayment, writePayments}
+use Rattle.rules.specs.Writing.{writePayment}
 use Rattle.rules.specs.Answer.{answer}
 use Rattle.columns.specs.Columns.{startsFrom}
 use Rattle.columns.specs.Loading.{paymentsOf}
-use Rattle.columns.proofs.FillLaws.{Coming, payments-coming}
+use Rattle.columns.proofs.FillLaws.{Coming, payments-coming, others-coming, first-ends, some-bytes}
 use Rattle.pen.proofs.CellLaws.{beyond}
 use Rattle.spots.specs.declared.Wanted.{Wanted}
 use Rattle.spots.specs.declared.Wanted.the-variants.{C14a, C15, C16, Part as PartText}
 use Rattle.spots.specs.Texts.{wordsOf, textOf, begunFrom, begunAt}
 use Rattle.spots.specs.Seeking.{found, hasText}
-use Rattle.spots.proofs.LengthLaws.{Begun, first-begun, others-coming, first-ends, some-bytes}
+use Rattle.spots.proofs.LengthLaws.{Begun, first-begun}
 
 -- ---- starts
 
@@ -37,23 +36,13 @@ start-behind p [] i q e = absurd (Option·none-ne-some q e)
 start-behind p (x ∷ xs) zero q e = omega (arith, Option·some-injective p q e)
 start-behind p (x ∷ xs) (suc i) q e = omega (arith, start-behind (p + length (writePayment x)) xs i q e)
 
--- payment i begins behind the payments before it
-pub start-there : (p : ℕ) (ps : List Payment) (i : ℕ) (x : Payment) → getElem? ps i ≡ some x
-    → getElem? (startsFrom p ps) i ≡ some (p + length (writePayments (take i ps)))
-start-there p [] i x e = absurd (Option·none-ne-some x e)
-start-there p (y ∷ ys) zero x e = ap (λ (q : ℕ). some q) (sym (add-zero p))
-start-there p (y ∷ ys) (suc i) x e =
-    let before = writePayments (take i ys) in
-    start-there (p + length (writePayment y)) ys i x e
-    ∙ ap (λ (q : ℕ). some q) (add-assoc p (length (writePayment y)) (length before) ∙ ap (λ n. p + n) (sym (length-append (writePayment y) before)))
-
 -- ---- the payment that begins at a start
 
 module _ (start p : ℕ) (x : Payment) (xs : List Payment) where
-  begun-first : p ≡ start → begunFrom start p (x ∷ xs) ≡ some x
+  pub begun-first : p ≡ start → begunFrom start p (x ∷ xs) ≡ some x
   begun-first e = ap (λ b. cond b (some x) (begunFrom start (p + length (writePayment x)) xs)) (eq-eqb p start e)
 
-  begun-later : (p ≡ start → ⊥) → begunFrom start p (x ∷ xs) ≡ begunFrom start (p + length (writePayment x)) xs
+  pub begun-later : (p ≡ start → ⊥) → begunFrom start p (x ∷ xs) ≡ begunFrom start (p + length (writePayment x)) xs
   begun-later n = ap (λ b. cond b (some x) (begunFrom start (p + length (writePayment x)) xs)) (ne-eqb p start n)
 
 -- payment i begins at its start, and no other does
@@ -64,6 +53,18 @@ begun-at-start p (y ∷ ys) zero q x s e = begun-first q p y ys (Option·some-in
 begun-at-start p (y ∷ ys) (suc i) q x s e =
     let next = p + length (writePayment y) in
     begun-later q p y ys (λ h. omega (arith, h, some-bytes y, start-behind next ys i q s)) ∙ begun-at-start next ys i q x s e
+
+-- where one begins, it is the payment of that start
+pub start-begun : (p : ℕ) (ps : List Payment) (q : ℕ) (x : Payment) → begunFrom q p ps ≡ some x
+    → (i : ℕ) × (getElem? (startsFrom p ps) i ≡ some q) × (getElem? ps i ≡ some x)
+start-begun p [] q x e = absurd (Option·none-ne-some x e)
+start-begun p (y ∷ ys) q x e = by (eqb p q) refl (start-begun (p + length (writePayment y)) ys q x)
+  where
+    by : (b : Bool) → eqb p q ≡ b
+        → (begunFrom q (p + length (writePayment y)) ys ≡ some x → (i : ℕ) × (getElem? (startsFrom (p + length (writePayment y)) ys) i ≡ some q) × (getElem? ys i ≡ some x))
+        → (i : ℕ) × (getElem? (startsFrom p (y ∷ ys)) i ≡ some q) × (getElem? (y ∷ ys) i ≡ some x)
+    by true h others = let here = eqb-true p q h in (0, ap (λ (n : ℕ). some n) here, sym (begun-first q p y ys here) ∙ e)
+    by false h others = let o = others (sym (begun-later q p y ys (eqb-false p q h)) ∙ e) in (suc (o .0), o .1, o .2)
 
 -- where there is no start, none begins
 pub none-at : (p : ℕ) (ps : List Payment) (q : ℕ) → ((i : ℕ) → getElem? (startsFrom p ps) i ≡ some q → ⊥) → begunFrom q p ps ≡ none

@@ -1,19 +1,18 @@
 -- The number of parts that the length of a payment tells, where it is read and where it stands.
 -- Assumes nothing.
-use Prim.Native.Nat.{ℕ, _+_, _-_, _*_, _/_, _≤_, _<_, min}
+use Prim.Native.Nat.{ℕ, _+_, _-_, _*_, _/_, min}
 use native.Mathlib.Omega.{arith}
 use mathlib.Core.Path.{_≡_, refl, sym, ap, _∙_}
 use mathlib.Core.List.{List, _∷_}
-use lib.ListN.{length, take, drop, length-append}
+use lib.ListN.{length, take, drop}
 use lib.Dec.{leb, le→leb}
-use Rattle.form.specs.Kind.{digits, every, digit, numeral}
+use Rattle.form.specs.Kind.{digits, every, digit}
 use Rattle.form.specs.Reader.{Look, has, lacks, judge}
 use Rattle.form.specs.Place.{lookAt}
 use Rattle.form.proofs.BoolLaws.{is-true}
-use Rattle.form.proofs.KindLaws.{numeral-length}
 use Rattle.rules.specs.Values.{Payment}
 use Rattle.rules.specs.Rules.{LegalPayment}
-use Rattle.rules.specs.Writing.{section, lengthOf, writeBody, writePayment}
+use Rattle.rules.specs.Writing.{section, writePayment}
 use Rattle.rules.proofs.PaymentSays.{few-parts}
 use Rattle.rules.proofs.LayoutLaws.{payment-length}
 use Rattle.fields.specs.declared.Refusal.{Refusal}
@@ -21,7 +20,7 @@ use Rattle.fields.specs.declared.Number.{Number}
 use Rattle.fields.specs.declared.Number.the-variants as number
 use Rattle.fields.specs.Answers.{ofField, numbers}
 use Rattle.fields.proofs.AnswerLaws.{zero-one}
-use Rattle.columns.proofs.StandLaws.{Stand, Spells, behind-first, first-inside, opened}
+use Rattle.columns.proofs.StandLaws.{Stand, Spells, opened}
 use Rattle.columns.proofs.PaymentLaws.{fieldsOf, row, parts-told}
 use Rattle.columns.proofs.FillLaws.{Coming}
 use Rattle.spots.specs.Seeking.{partsTold}
@@ -39,12 +38,6 @@ told-parts e i = i ∙ sym (ap partsTold e)
 
 -- ---- as it stands
 
--- no payment is empty
-pub some-bytes : (x : Payment) → 0 < length (writePayment x)
-some-bytes x =
-    let c1 = numeral 4 (lengthOf (length (x .parts))) in
-    omega (arith, length-append c1 (writeBody x), numeral-length 4 (lengthOf (length (x .parts))))
-
 -- the payment x is legal and begins at p
 pub record Begun (f : List ℕ) (p : ℕ) (x : Payment) : Type 0 where
   pub kind : List ℕ
@@ -54,12 +47,6 @@ pub record Begun (f : List ℕ) (p : ℕ) (x : Payment) : Type 0 where
 module _ {f : List ℕ} {p : ℕ} {x : Payment} {xs : List Payment} (c : Coming f p (x ∷ xs)) where
   pub first-begun : Begun f p x
   first-begun = record { kind = c .kind; legal = c .legal .0; stand = opened (fieldsOf x) (c .stand) }
-
-  pub others-coming : Coming f (p + length (writePayment x)) xs
-  others-coming = record { kind = c .kind; legal = c .legal .1; stand = behind-first (c .stand) refl }
-
-  pub first-ends : p + length (writePayment x) ≤ length f
-  first-ends = first-inside (c .stand) refl (some-bytes x)
 
 -- digits that spell a number are read as it
 look-spelled : {f : List ℕ} {p w v : ℕ} → Spells f p w v → lookAt (digits w) f p ≡ has v

@@ -1,7 +1,7 @@
 pub mod LengthLaws
+pub mod BegunLaws
 pub mod LoopLaws
 pub mod FieldLaws
 pub mod TextLaws
-pub mod BegunLaws
 pub mod SpotLaws
 pub mod Answers

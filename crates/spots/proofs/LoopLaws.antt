@@ -4,11 +4,10 @@ use Prim.Native.Nat.{ℕ, suc, _+_, _*_, _≤_, _<_, min}
 use native.Mathlib.Nat.{zero-add}
 use native.Mathlib.Omega.{arith}
 use mathlib.Core.Path.{_≡_, refl, sym, ap, subst, _∙_}
-use mathlib.Core.Bool.{true, false, cond}
+use mathlib.Core.Bool.{true, false}
 use mathlib.Core.List.{List, [], _∷_}
 use mathlib.Core.Option.{some}
 use lib.ListN.{length, getElem?}
-use borrow.Author.Tests.{eq-eqb, ne-eqb}
 use Rattle.form.specs.Kind.{digits}
 use Rattle.form.specs.Place.{lookAt}
 use Rattle.rules.specs.Values.{Payment}
@@ -16,10 +15,11 @@ use Rattle.rules.specs.Writing.{section, writePayment}
 use Rattle.rules.specs.Answer.{answer}
 use Rattle.columns.specs.Columns.{startsFrom, starts}
 use Rattle.columns.specs.Loading.{paymentsOf}
-use Rattle.columns.proofs.FillLaws.{Coming, payments-coming}
+use Rattle.columns.proofs.FillLaws.{Coming, payments-coming, others-coming, first-ends}
 use Rattle.spots.specs.Texts.{begunFrom, begunAt}
 use Rattle.spots.specs.Seeking.{found, partsTold}
-use Rattle.spots.proofs.LengthLaws.{first-begun, others-coming, first-ends, bytes-there}
+use Rattle.spots.proofs.LengthLaws.{first-begun, bytes-there}
+use Rattle.spots.proofs.BegunLaws.{begun-first, begun-later}
 
 -- what is kept of the rows passed, the place and the payments still to come
 abbrev pub Keeping : Type 1
@@ -89,7 +89,7 @@ unfolding begunAt
 sought-first start all = refl
 
 pub sought-on : (start : ℕ) (all : List Payment) (row p : ℕ) → (p ≡ start → ⊥) → Onward row p (Sought start all)
-sought-on start all row p n x xs k = k ∙ ap (λ b. cond b (some x) (begunFrom start (p + length (writePayment x)) xs)) (ne-eqb p start n)
+sought-on start all row p n x xs k = k ∙ begun-later start p x xs n
 
 module _ {f : List ℕ} {start row p : ℕ} (w : Passing f (Sought start (paymentsOf (answer f))) row p) where
   pub begun-here : row < length (paymentsOf (answer f)) → p ≡ start → true ≡ found (begunAt start (paymentsOf (answer f)))
@@ -98,8 +98,7 @@ module _ {f : List ℕ} {start row p : ℕ} (w : Passing f (Sought start (paymen
       by : (left : List Payment) → row + length left ≡ length (paymentsOf (answer f)) → Sought start (paymentsOf (answer f)) row p left
           → true ≡ found (begunAt start (paymentsOf (answer f)))
       by [] l k = absurd (omega arith)
-      by (x ∷ xs) l k =
-          sym (ap found (k ∙ ap (λ b. cond b (some x) (begunFrom start (p + length (writePayment x)) xs)) (eq-eqb p start e)))
+      by (x ∷ xs) l k = sym (ap found (k ∙ begun-first start p x xs e))
 
   pub none-begun : length (paymentsOf (answer f)) ≤ row → false ≡ found (begunAt start (paymentsOf (answer f)))
   none-begun h = by (w .left) (w .count) (w .kept)

@@ -1,4 +1,5 @@
--- What the code goes by: whether a payment has a text, which field of its line the text is, and how many parts its length tells.
+-- What private functions go by, and no public promise cites: whether a payment has a text, which field of its line the text is, and how many parts its
+-- length tells.
 use Prim.Native.Nat.{ℕ, _+_, _-_, _*_, _/_}
 use mathlib.Core.Bool.{Bool, true, false, _&&_}
 use mathlib.Core.Option.{Option, none, some}

@@ -33,7 +33,7 @@ textOf (PartText i) x = wordsOf (partOf i (x .parts))
 abbrev pub textWidth : ℕ
 textWidth = 27
 
--- behind the mark of part i: the second section has two parts, from its byte 59 on; each later one has four
+-- behind the mark of part i: the second section takes two parts, from its byte 59 on; the third to fifth take four each, the sixth one
 abbrev pub partPlace : ℕ → ℕ
 partPlace i = cond (leb i 2) (128 + 59 + 29 * (i - 1) + 2) (256 + 128 * ((i - 3) / 4) + 29 * ((i - 3) % 4) + 2)
 

@@ -54,7 +54,7 @@ fn refused(number: u8, place: usize) -> Spot
     }
 }
 
-// How many parts a payment at p has, as its length tells; 0 where no length of C stands there.
+// How many parts a payment at p has, as its length tells; 0 where no digits stand there, or less than the length of any C.
 fn parts_at(s: &[u8], p: usize) -> usize
     ensures { λ r. ⌜ r ≡ partsTold (lookAt (digits 4) (now (s .entry)) p) ⌝ }
 {

@@ -1,27 +1,30 @@
--- What the statements of `make`, `hand`, `text_of` and `refusal_of` come to: a refusal gives no bytes; and of payment n of an acceptable file the
--- view has the whole file and the payment's start, and hands out the payment's own texts.
+-- What the statements of `make`, `hand`, `text_of` and `refusal_of` come to: a refusal gives no bytes, and which one it is; and of payment n of an
+-- acceptable file the view has the whole file and the payment's start, and hands out the payment's own texts.
 -- Assumes nothing.
-use Prim.Native.Nat.{ℕ, zero, suc, _+_, _-_}
+use Prim.Native.Nat.{ℕ, _+_, _-_, _≤_}
 use native.Mathlib.Nat.{add-zero, add-sub-cancel-left}
 use native.Mathlib.Omega.{arith}
 use mathlib.Core.Path.{_≡_, refl, ap, subst, _∙_}
 use mathlib.Core.Logic.{_≢_}
 use mathlib.Core.Bool.{Bool, true, false}
 use mathlib.Core.List.{List, []}
-use mathlib.Core.Option.{some}
+use mathlib.Core.Option.{none, some}
 use lib.ListN.{length, take, drop, getElem?}
 use lib.Dec.{eqb}
 use lib.Seq.{take-all}
-use borrow.Author.Tests.{eqb-false}
+use borrow.Author.Tests.{eqb-false, ne-eqb}
 use denote.Ref.{RefT, now}
 use Rattle.rules.specs.Values.{Payment}
 use Rattle.rules.specs.Writing.{Acceptable}
+use Rattle.rules.specs.Answer.{answer, outcome}
+use Rattle.rules.specs.Cases.{given}
+use Rattle.rules.proofs.Demand1.{zero-exactly}
 use Rattle.fields.specs.Answers.{refusalOf}
 use Rattle.spots.specs.declared.Wanted.{Wanted}
 use Rattle.spots.specs.declared.Spot.{Spot}
 use Rattle.spots.specs.Texts.{textOf, textWidth, placeOf}
-use Rattle.spots.specs.Spots.{standing, findAt, locateAt}
-use Rattle.spots.proofs.Answers.{find-refuses, locate-refuses, startOf, PaymentIs, payment-is}
+use Rattle.spots.specs.Spots.{refusing, standing, findAt, locating, locateAt}
+use Rattle.spots.proofs.Answers.{nineteen, refused-as-checked, find-refuses, locate-refuses, no-payment, startOf, PaymentIs, payment-is}
 use Rattle.view.specs.declared.View.{View}
 use Rattle.view.specs.declared.Made.{Made}
 use Rattle.view.specs.declared.Handed.{Handed}
@@ -29,11 +32,10 @@ use Rattle.view.specs.Views.{IsMade, IsHanded, bytesOf, textAt, IsText, 
 
 -- ---- what a refusal gives back
 
--- no bytes are cut out of no bytes
-nothing-cut : (a b : ℕ) → _≡_ {A = List ℕ} (take a (drop b [])) []
-nothing-cut zero b = refl
-nothing-cut (suc a) zero = refl
-nothing-cut (suc a) (suc b) = refl
+-- in no bytes nothing is sought: an empty file is 1 at 0
+no-bytes : (start : ℕ) (w : Wanted) → locateAt [] start w ≡ refusing 1 0
+unfolding locateAt locating given
+no-bytes start w = refl
 
 -- a view of no bytes, with start 0
 pub refused-view : (s : RefT (List ℕ)) (n : ℕ) (m : Made) → IsMade s (findAt (now s) n) m → m .number ≢ 0
@@ -41,6 +43,15 @@ pub refused-view : (s : RefT (List ℕ)) (n : ℕ) (m : Made) → IsMade s (find
 refused-view s n m promised nonzero =
     let e = subst (λ z. IsMade s z m) (find-refuses (now s) n (λ z. nonzero (promised .2 ∙ z))) promised in
     (e .0 .0, e .1)
+
+-- which hands nothing out: 1 at 0, whatever the making's refusal was
+pub refused-view-hands : (s : RefT (List ℕ)) (n : ℕ) (m : Made) → IsMade s (findAt (now s) n) m → m .number ≢ 0
+    → (w : Wanted) (h : Handed) → IsHanded (m .view .file) (locateAt (now (m .view .file)) (m .view .start) w) h
+    → (h .number ≡ 1) × (h .place ≡ 0) × (now (h .text) ≡ [])
+refused-view-hands s n m promised nonzero w h handed =
+    let empty = refused-view s n m promised nonzero .0 in
+    let e = subst (λ z. IsHanded (m .view .file) z h) (ap (λ f. locateAt f (m .view .start) w) empty ∙ no-bytes (m .view .start) w) handed in
+    (e .1, e .2, e .0 .0)
 
 -- an empty text, whatever the view
 pub refused-text : (v : View) (w : Wanted) (h : Handed) → IsHanded (v .file) (locateAt (now (v .file)) (v .start) w) h → h .number ≢ 0 → now (h .text) ≡ []
@@ -58,12 +69,30 @@ no-text-of s n w r promised nonzero = by (eqb (findAt (now s) n .number) 0) refl
         let why : refusalFor (now s) n w .number ≡ textAt (now s) n w .number
         = ap (λ b. ifNone b (refusalOf (findAt (now s) n .number) (findAt (now s) n .place)) (refusalOf (textAt (now s) n w .number) (textAt (now s) n w .place)) .number) e in
         let p = locate-refuses (bytesOf (now s) n) (findAt (now s) n .from) w (λ z. nonzero (why ∙ z)) in
-        promised .0 ∙ ap (λ (z : Spot). take (z .to - z .from) (drop (z .from) (bytesOf (now s) n))) p
+        promised .0 ∙ ap (λ (z : Spot). take (z .to - z .from) (drop (z .from) (now s))) p
     by false e =
         let p = find-refuses (now s) n (eqb-false (findAt (now s) n .number) 0 e) in
-        let b : bytesOf (now s) n ≡ [] = ap (λ (z : Spot). take (z .to) (now s)) p in
-        let spot = textAt (now s) n w in
-        promised .0 ∙ ap (λ f. take (spot .to - spot .from) (drop (spot .from) f)) b ∙ nothing-cut (spot .to - spot .from) (spot .from)
+        let spot = ap (λ (z : Spot). locateAt (take (z .to) (now s)) (z .from) w) p ∙ no-bytes 0 w in
+        promised .0 ∙ ap (λ (z : Spot). take (z .to - z .from) (drop (z .from) (now s))) spot
+
+-- ---- which refusal it is
+
+module _ (file : List ℕ) (n : ℕ) (w : Wanted) where
+  -- the making's goes before the hand-out's
+  making-first : {p : Spot} → findAt file n ≡ p → p .number ≢ 0 → refusalFor file n w ≡ refusalOf (p .number) (p .place)
+  unfolding firstOf
+  making-first {p} e nonzero =
+      let h = textAt file n w in
+      ap (λ (z : Spot). firstOf (z .number) (z .place) (h .number) (h .place)) e
+      ∙ ap (λ b. ifNone b (refusalOf (p .number) (p .place)) (refusalOf (h .number) (h .place))) (ne-eqb (p .number) 0 nonzero)
+
+  -- that of the check, where the file is not acceptable
+  pub refusal-as-checked : ¬ Acceptable file → refusalFor file n w ≡ refusalOf (outcome (answer file) .number) (outcome (answer file) .place)
+  refusal-as-checked not = making-first (refused-as-checked file not n 0 w .0) (λ z. not (zero-exactly file .0 z))
+
+  -- 19 at 0, where there are fewer payments
+  pub refusal-no-payment : (x : Acceptable file) → length (x .0 .payments) ≤ n → refusalFor file n w ≡ refusalOf 19 0
+  refusal-no-payment x h = making-first (no-payment file x n h) nineteen
 
 -- ---- what is given back of payment n, where it is p
 
@@ -92,7 +121,20 @@ module _ (s : RefT (List ℕ)) (x : Acceptable (now s)) (n : ℕ) (p : Payment) 
       let e = subst (λ z. IsMade s z m) (it .found) promised in
       record { number = e .2; place = e .3; bytes = e .0 .0 ∙ whole (now s); memory = e .0 .1; offset = e .0 .2 ∙ add-zero (s .ptr .1); begins = e .1 }
 
-  -- the text itself: 0 at 0, its bytes, and that stretch of the file itself
+  -- a hand-out of the view that was made is sought in the file itself, at the payment's start
+  handed-as : (w : Wanted) (m : Made) → IsMade s (findAt (now s) n) m → (h : Handed)
+      → IsHanded (m .view .file) (locateAt (now (m .view .file)) (m .view .start) w) h → IsHanded (m .view .file) (locateAt (now s) start w) h
+  handed-as w m made h handed =
+      let v = view-is m made in
+      subst (λ z. IsHanded (m .view .file) z h) (ap (λ f. locateAt f (m .view .start) w) (v .bytes) ∙ ap (λ q. locateAt (now s) q w) (v .begins)) handed
+
+  -- and so without a view that is kept
+  sought-as : (w : Wanted) → textAt (now s) n w ≡ locateAt (now s) start w
+  sought-as w =
+      let all = take-all (length (now s)) (now s) (omega arith) in
+      ap (λ (z : Spot). locateAt (take (z .to) (now s)) (z .from) w) (it .found) ∙ ap (λ f. locateAt f start w) all
+
+  -- the text itself: its bytes, and that stretch of the file itself
   pub record TextIs (w : Wanted) (t : List ℕ) (r : RefT (List ℕ)) : Type 0 where
     pub bytes : now r ≡ t
     pub memory : r .ptr .0 ≡ s .ptr .0
@@ -107,25 +149,33 @@ module _ (s : RefT (List ℕ)) (x : Acceptable (now s)) (n : ℕ) (p : Payment) 
         → (h .number ≡ 0) × ((h .place ≡ 0) × TextIs w t (h .text))
     texts-are m made h handed =
         let v = view-is m made in
-        let spot = ap (λ f. locateAt f (m .view .start) w) (v .bytes) ∙ ap (λ q. locateAt (now s) q w) (v .begins) ∙ it .text w t has in
-        let e = subst (λ z. IsHanded (m .view .file) z h) spot handed in
+        let e = subst (λ z. IsHanded (m .view .file) z h) (it .text w t has) (handed-as w m made h handed) in
         let at = start + placeOf w in
         let bytes = e .0 .0 ∙ ap (λ f. take (at + textWidth - at) (drop at f)) (v .bytes) ∙ cut in
         (e .1, (e .2, record { bytes = bytes; memory = e .0 .1 ∙ v .memory; offset = e .0 .2 ∙ ap (λ o. o + at) (v .offset) }))
 
-    view-bytes : bytesOf (now s) n ≡ now s
-    view-bytes = ap (λ (z : Spot). take (z .to) (now s)) (it .found) ∙ take-all (length (now s)) (now s) (omega arith)
-
     spot-is : textAt (now s) n w ≡ standing (start + placeOf w) (start + placeOf w + textWidth)
-    spot-is = ap (λ f. locateAt f (findAt (now s) n .from) w) view-bytes ∙ ap (λ (z : Spot). locateAt (now s) (z .from) w) (it .found) ∙ it .text w t has
+    spot-is = sought-as w ∙ it .text w t has
 
     -- the same, without a view that is kept
     pub text-is : (r : RefT (List ℕ)) → IsText s n w r → TextIs w t r
     text-is r e =
         let p = spot-is in
-        let bytes = e .0 ∙ (λ j. take (p j .to - p j .from) (drop (p j .from) (view-bytes j))) ∙ cut in
+        let bytes = e .0 ∙ ap (λ (z : Spot). take (z .to - z .from) (drop (z .from) (now s))) p ∙ cut in
         record { bytes = bytes; memory = e .1; offset = e .2 ∙ ap (λ (z : Spot). s .ptr .1 + z .from) p }
 
     pub not-refused : refusalFor (now s) n w ≡ refusalOf 0 0
     unfolding firstOf
     not-refused = let p = spot-is in λ j. firstOf (it .found j .number) (it .found j .place) (p j .number) (p j .place)
+
+  -- a text that it has not: 19 at 0, and an empty text
+  module _ (w : Wanted) (lacks : textOf w p ≡ none) where
+    pub no-text-handed : (m : Made) → IsMade s (findAt (now s) n) m → (h : Handed)
+        → IsHanded (m .view .file) (locateAt (now (m .view .file)) (m .view .start) w) h → (h .number ≡ 19) × (h .place ≡ 0) × (now (h .text) ≡ [])
+    no-text-handed m made h handed =
+        let e = subst (λ z. IsHanded (m .view .file) z h) (it .no-text w lacks) (handed-as w m made h handed) in
+        (e .1, e .2, e .0 .0)
+
+    pub refusal-no-text : refusalFor (now s) n w ≡ refusalOf 19 0
+    unfolding firstOf
+    refusal-no-text = let p = sought-as w ∙ it .no-text w lacks in λ j. firstOf (it .found j .number) (it .found j .place) (p j .number) (p j .place)

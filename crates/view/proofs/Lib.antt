@@ -1,5 +1,5 @@
 pub mod Walking
 pub mod Calls
-pub mod Plain
+pub mod MakeAndHand
 pub mod OneAnswer
 pub mod Answers

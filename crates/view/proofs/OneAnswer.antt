@@ -1,5 +1,6 @@
--- The promises of `make`, `hand` and `text_of` admit one answer each. No promise fixes a reference's ghost name, which is no part of the machine value, so what is one is the machine value: the pointer, the count and the numbers.
+-- Each promise of the crate admits one answer. No promise fixes a reference's ghost name, which is no part of the machine value, so of `make`, `hand` and `text_of` what is one is the machine value: the pointer, the count and the numbers.
 --     one-made, one-handed, one-text      any two answers that keep the promise have the same machine value
+--     one-refusal                         the promise of `refusal_of` is an equation: any two answers are the same
 -- Assumes nothing.
 use mathlib.Core.Path.{_≡_, sym, _∙_}
 use Prim.Native.Nat.{ℕ}
@@ -9,9 +10,10 @@ use mir.Val.{vint, vstruct, vcons, vnil}
 use lib.ListN.{length}
 use denote.Ref.{RefT, now}
 use denote.Slice.{sliceVal}
+use Rattle.fields.specs.declared.Refusal.{Refusal}
 use Rattle.spots.specs.declared.Wanted.{Wanted}
 use Rattle.spots.specs.declared.Spot.{Spot}
-use Rattle.view.specs.Views.{IsMade, IsHanded, IsText}
+use Rattle.view.specs.Views.{IsMade, IsHanded, IsText, refusalFor}
 use Rattle.view.specs.declared.Made.{Made}
 use Rattle.view.specs.declared.Handed.{Handed}
 use Rattle.view.proofs.Made.Laws as N′
@@ -30,3 +32,6 @@ one-handed s p x y e f = λ j. vstruct (vcons (one-slice (x .text) (y .text) (e 
 
 pub one-text : (s : RefT (List ℕ)) (n : ℕ) (w : Wanted) (x y : RefT (List ℕ)) → IsText s n w x → IsText s n w y → slice x ≡ slice y
 one-text s n w x y e f = one-slice x y e f
+
+pub one-refusal : (file : List ℕ) (n : ℕ) (w : Wanted) (x y : Refusal) → x ≡ refusalFor file n w → y ≡ refusalFor file n w → x ≡ y
+one-refusal file n w x y e f = e ∙ sym f

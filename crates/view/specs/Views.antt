@@ -37,9 +37,7 @@ textAt file n w = locateAt (bytesOf file n) (findAt file n .from) w
 
 -- r is that text, as a stretch of the file s itself
 abbrev pub IsText : RefT (List ℕ) → ℕ → Wanted → RefT (List ℕ) → Type 0
-IsText s n w r =
-    let p = textAt (now s) n w in
-    (now r ≡ take (p .to - p .from) (drop (p .from) (bytesOf (now s) n))) × (r .ptr .0 ≡ s .ptr .0) × (r .ptr .1 ≡ s .ptr .1 + p .from)
+IsText s n w r = let p = textAt (now s) n w in Stretch s (p .from) (p .to) r
 
 -- the first refusal of two; 0 is none
 abbrev pub ifNone : Bool → Refusal → Refusal → Refusal

@@ -43,7 +43,7 @@ use Rattle.view.proofs.Made.Laws as N′
 use Rattle.view.proofs.Handed.Laws as H″
 use Rattle.view.proofs.Walking.{with-number, goes, Promise, Alive, asks, asks-plain, Ends, exits, proves}
 use Rattle.view.proofs.Calls.{α, slice, Text, spotOf}
-use Rattle.view.proofs.Plain.{refusal-law, Params, params-vals, params-tell, OwnMade, made-typed, handed-typed, to-make, make-asked, to-hand, hand-asked}
+use Rattle.view.proofs.MakeAndHand.{refusal-law, Params, params-vals, params-tell, OwnMade, made-typed, handed-typed, to-make, make-asked, to-hand, hand-asked}
 use Rattle.view.proofs.make as make
 use Rattle.view.proofs.make.Symbol as make-def
 use Rattle.view.proofs.make.Symbol.{name as #view·make}

@@ -37,7 +37,7 @@ use Rattle.view.proofs.Made.Laws as N′
 use Rattle.view.proofs.Handed.Laws as H″
 use Rattle.view.proofs.Walking.{goes, Promise, Alive, asks, Ends, exits, proves}
 use Rattle.view.proofs.Calls.{α, slice, Text, spotOf}
-use Rattle.view.proofs.Plain.{text-law, Params, params-vals, params-tell, OwnMade, made-typed, handed-typed, text-of, to-make, make-asked, to-hand, hand-asked}
+use Rattle.view.proofs.MakeAndHand.{text-law, Params, params-vals, params-tell, OwnMade, made-typed, handed-typed, text-of, to-make, make-asked, to-hand, hand-asked}
 use Rattle.view.proofs.make as make
 use Rattle.view.proofs.make.Symbol as make-def
 use Rattle.view.proofs.make.Symbol.{name as #view·make}
