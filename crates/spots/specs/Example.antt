@@ -50,11 +50,12 @@ pub parts : map (λ i. between file (locateAt file 128 (PartText i))) (1 ∷ 2 �
 unfolding locateAt locating begunAt given
 parts = refl
 
--- no such part, and no payment begins there: A, one byte beside, in its second section, E, and behind the end
+-- it has one part
 pub no-part : map (λ i. locateAt fileM 128 (PartText i)) (0 ∷ 2 ∷ 15 ∷ 16 ∷ []) ≡ noSuch ∷ noSuch ∷ noSuch ∷ noSuch ∷ []
 unfolding locateAt locating begunAt given
 no-part = refl
 
+-- no payment begins there: A, a byte before and behind its start, in its second section, E, the end of the file
 pub no-start : map (λ start. locateAt fileM start C14a) (0 ∷ 127 ∷ 129 ∷ 256 ∷ 384 ∷ 512 ∷ [])
     ≡ noSuch ∷ noSuch ∷ noSuch ∷ noSuch ∷ noSuch ∷ noSuch ∷ []
 unfolding locateAt locating begunAt given

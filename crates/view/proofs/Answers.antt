@@ -2,7 +2,7 @@
 -- acceptable file the view has the whole file and the payment's start, and hands out the payment's own texts.
 -- Assumes nothing.
 use Prim.Native.Nat.{ℕ, _+_, _-_, _≤_}
-use native.Mathlib.Nat.{add-zero, add-sub-cancel-left}
+use native.Mathlib.Nat.{add-zero, sub-zero, add-sub-cancel-left}
 use native.Mathlib.Omega.{arith}
 use mathlib.Core.Path.{_≡_, refl, ap, subst, _∙_}
 use mathlib.Core.Logic.{_≢_}
@@ -98,7 +98,7 @@ module _ (file : List ℕ) (n : ℕ) (w : Wanted) where
 
 -- all of the bytes
 whole : (f : List ℕ) → take (length f - 0) (drop 0 f) ≡ f
-whole f = let e : length f - 0 ≡ length f = omega arith in ap (λ n. take n f) e ∙ take-all (length f) f (omega arith)
+whole f = ap (λ n. take n f) (sub-zero (length f)) ∙ take-all (length f) f (omega arith)
 
 module _ (s : RefT (List ℕ)) (x : Acceptable (now s)) (n : ℕ) (p : Payment) (is : getElem? (x .0 .payments) n ≡ some p) where
   abbrev start : ℕ
