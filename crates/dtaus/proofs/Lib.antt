@@ -1,0 +1,3 @@
+pub mod TellingLaws
+pub mod NamingLaws
+pub mod CallLaws
