@@ -1,3 +1,4 @@
 pub mod TellingLaws
 pub mod NamingLaws
 pub mod CallLaws
+pub mod Answers

@@ -10,7 +10,7 @@ use Rattle.dtaus.proofs.tell_outcome.Statement.{statement}
 use Rattle.dtaus.proofs.tell_outcome.Tie as tie
 
 returns : tie.Need-returns
-returns c = not-told _ (c .before .args .result .now) (c .if1 .taken)
+returns c = not-told _ (c .before .args .result .now) (omega (arith, c .if1 .taken))
 
 slice-write-result : tie.Need-slice-write-result
 slice-write-result c = search needs

@@ -10,7 +10,7 @@ use Rattle.dtaus.proofs.tell_written.Statement.{statement}
 use Rattle.dtaus.proofs.tell_written.Tie as tie
 
 returns : tie.Need-returns
-returns c = not-told _ (c .before .args .result .now) (c .if1 .taken)
+returns c = not-told _ (c .before .args .result .now) (omega (arith, c .if1 .taken))
 
 cast-result : tie.Need-cast-result
 cast-result c = search needs

@@ -1,0 +1,11 @@
+// The six functions as C++ sees them by the header: their names must be those of the library.
+#include "dtaus.h"
+
+// A second time, as it happens in a program of many headers.
+#include "dtaus.h"
+
+const void *const functions[] = {
+    reinterpret_cast<const void *>(dtaus_check), reinterpret_cast<const void *>(dtaus_load),
+    reinterpret_cast<const void *>(dtaus_list),  reinterpret_cast<const void *>(dtaus_compose),
+    reinterpret_cast<const void *>(dtaus_find),  reinterpret_cast<const void *>(dtaus_text),
+};

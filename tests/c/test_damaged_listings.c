@@ -1,0 +1,112 @@
+// Tests of refused listings: case M's with bytes changed, put in, cut or added.
+#include "calls.h"
+#include "dtaus.h"
+#include "harness.h"
+#include "tests.h"
+
+// Where the listing's second line begins, that of the payment.
+#define SECOND_LINE 65
+
+// Where its C12 begins.
+#define CENTS 137
+
+static const struct damage changed[] = {
+    {0, "B", DTAUS_NO_LINE, 0, "the letter of the first line"},
+    {2, "XK", DTAUS_NOT_FIXED, 2, "A3 is none of the four"},
+    {5, "2005001X", DTAUS_NO_DIGIT, 5, "A4 has a letter"},
+    {14, "00000001", DTAUS_CONDITION, 14, "A5 in a customer's file"},
+    {23, "m", DTAUS_NO_SIGN, 23, "A6 has a small letter"},
+    {35, "290203", DTAUS_NO_DATE, 35, "A7 is no day"},
+    {65, "E", DTAUS_NO_LINE, 65, "a line of E"},
+    {76, "90050020", DTAUS_CONDITION, 76, "C4 begins with 9"},
+    {76, "3005002X", DTAUS_NO_DIGIT, 76, "C4 has a letter"},
+    {83, " ", DTAUS_NO_LINE, 65, "C4 ends in a blank"},
+    {110, "05", DTAUS_NO_KEY, 110, "C7a is the key of a debit"},
+    {CENTS, "00000000000", DTAUS_CONDITION, CENTS, "C12 is zero"},
+    {149, "m", DTAUS_NO_SIGN, 149, "C14a has a small letter"},
+    {154, "\t", DTAUS_NO_LINE, 65, "C14a has a tab"},
+    {182, "04", DTAUS_NO_MARK, 182, "a mark that is none"},
+    {192, " ", DTAUS_NO_LINE, 65, "no line end"},
+};
+
+static const struct damage inserted[] = {
+    {64, "31032004", DTAUS_NO_DATE, 64, "A11b is 16 days later"},
+    {64, "\r", DTAUS_NO_LINE, 0, "a carriage return in the first line"},
+    {192, "\r", DTAUS_NO_SIGN, 185, "a carriage return in the second"},
+    {76, "0", DTAUS_NO_LINE, 65, "C4 has nine digits"},
+    {192, "\t02", DTAUS_NO_LINE, 65, "a mark without its text"},
+    {193, "\n", DTAUS_NO_LINE, 193, "an empty line"},
+};
+
+// The listing's refusal comes before 16.
+static void expect_refused(const struct bytes *listing, uint8_t number, uint64_t place,
+                           const char *what) {
+    begin("compose, %zu bytes, %s", listing->length, what);
+    struct call call = roomy(COMPOSE, listing);
+    expect_refusal(&call, number, place);
+    begin("compose without room, %zu bytes, %s", listing->length, what);
+    call = cramped(COMPOSE, listing);
+    expect_refusal(&call, number, place);
+}
+
+static void test_damages(const struct samples *samples) {
+    static struct bytes listing;
+    for (size_t i = 0; i < sizeof changed / sizeof changed[0]; i++) {
+        listing = samples->listing;
+        put(&listing, changed[i].place, changed[i].bytes);
+        expect_refused(&listing, changed[i].number, changed[i].refused_at, changed[i].what);
+    }
+    for (size_t i = 0; i < sizeof inserted / sizeof inserted[0]; i++) {
+        listing = samples->listing;
+        insert(&listing, inserted[i].place, inserted[i].bytes);
+        expect_refused(&listing, inserted[i].number, inserted[i].refused_at, inserted[i].what);
+    }
+}
+
+// A line that is not ended has not its form; whole lines that are too few end early.
+static void test_cut(const struct samples *samples) {
+    static struct bytes listing;
+    listing = samples->listing;
+    while (listing.length > 0) {
+        listing.length--;
+        size_t line = listing.length < SECOND_LINE ? 0 : SECOND_LINE;
+        uint8_t number = listing.length == line ? DTAUS_ENDS_EARLY : DTAUS_NO_LINE;
+        expect_refused(&listing, number, line, "cut");
+    }
+}
+
+// A hundred lines of the highest amount, and more: one cent too many, and a line too many.
+static void test_cents(const struct samples *samples) {
+    static struct bytes listing;
+    const uint8_t *line = samples->listing.at + SECOND_LINE;
+    size_t length = samples->listing.length - SECOND_LINE;
+    listing = samples->listing;
+    put(&listing, CENTS, "99999999999");
+    for (int i = 1; i < 100; i++)
+        append(&listing, listing.at + SECOND_LINE, length);
+    size_t last = listing.length, cents = last + CENTS - SECOND_LINE;
+    append(&listing, line, length);
+    put(&listing, cents, "00000000100");
+    expect_refused(&listing, DTAUS_CENTS_OVER, cents, "one cent too many");
+    put(&listing, cents, "00000000099");
+    size_t next = listing.length;
+    append(&listing, line, length);
+    expect_refused(&listing, DTAUS_CENTS_OVER, next, "a payment behind the highest sum");
+}
+
+// Each is given the other's input.
+static void test_exchanged(const struct samples *samples) {
+    begin("compose, a file");
+    struct call compose = roomy(COMPOSE, &samples->m);
+    expect_refusal(&compose, DTAUS_NO_LINE, 0);
+    begin("list, a listing");
+    struct call list = roomy(LIST, &samples->listing);
+    expect_refusal(&list, DTAUS_NOT_FIXED, 0);
+}
+
+void test_damaged_listings(const struct samples *samples) {
+    test_damages(samples);
+    test_cut(samples);
+    test_cents(samples);
+    test_exchanged(samples);
+}

@@ -1,0 +1,19 @@
+// Tests of the header's numbers: each name has its own, also those that no input here leads to.
+#include "dtaus.h"
+#include "harness.h"
+#include "tests.h"
+
+static const int in_order[] = {
+    DTAUS_ACCEPTED,        DTAUS_SHORT,      DTAUS_NOT_FIXED,        DTAUS_NO_DIGIT,
+    DTAUS_NO_SIGN,         DTAUS_NO_LENGTH,  DTAUS_NO_MORE_PAYMENTS, DTAUS_ACCOUNTS_OVER,
+    DTAUS_BANK_CODES_OVER, DTAUS_CENTS_OVER, DTAUS_NO_DATE,          DTAUS_CONDITION,
+    DTAUS_NO_KEY,          DTAUS_NO_MARK,    DTAUS_NOT_COUNTED,      DTAUS_SURPLUS,
+    DTAUS_NO_ROOM,         DTAUS_NO_LINE,    DTAUS_ENDS_EARLY,       DTAUS_NO_SUCH,
+};
+
+void test_header(void) {
+    begin("the numbers have their names");
+    expect_equal(sizeof in_order / sizeof in_order[0], 20, "how many numbers there are");
+    for (int i = 0; i < 20; i++)
+        expect_equal((uint64_t)in_order[i], (uint64_t)i, "the number of a name");
+}
