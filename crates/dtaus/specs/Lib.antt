@@ -1,2 +1,3 @@
 pub mod Figures
 pub mod Calls
+pub mod Example
