@@ -2,6 +2,8 @@ pub mod TrimLaws
 pub mod DigitLaws
 pub mod LineLaws
 pub mod PrintLaws
+pub mod NumberLaws
+pub mod PartLaws
 pub mod RecordLaws
 pub mod ListingLaws
 pub mod LoopLaws

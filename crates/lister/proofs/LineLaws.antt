@@ -16,7 +16,7 @@ use Rattle.listing.specs.Records.{Cell, cut}
 use Rattle.listing.proofs.LineLaws.{length-trim}
 use Rattle.pen.specs.declared.Cell.{Cell as CodeCell}
 use Rattle.pen.specs.Walking.{letterOf, cellsOf, cellOf, cellAt}
-use Rattle.lister.specs.Printing.{lineAt, Lies}
+use Rattle.lister.specs.Printing.{lineAt, Lies, printed}
 
 -- the fields in these cells of the record at p, each behind a tab
 abbrev pub tabbed : List ℕ → ℕ → List Cell → List ℕ
@@ -27,7 +27,7 @@ tabbed f p cs = behindTabs (cut f p cs)
 -- a cell of the code: it lies in the file, and what stands in it follows the fields before it
 pub record Lying (f : List ℕ) (p : ℕ) (cs : List Cell) (i : ℕ) (c : CodeCell) : Type 0 where
   pub inside : p + (c .place + c .width) ≤ length f
-  pub more : cut f p (take (suc i) cs) ≡ cut f p (take i cs) ++ (trim (take (c .width) (drop (p + c .place) f)) ∷ [])
+  pub more : cut f p (take (suc i) cs) ≡ cut f p (take i cs) ++ (printed c f p ∷ [])
 
 cell-lies : (f : List ℕ) (p : ℕ) (cs : List Cell) (n i : ℕ) → i < n → n ≤ length cs
     → T (every (λ (c : Cell). leb (p + (c .place + width (c .kind))) (length f)) (take n cs)) → Lying f p cs i (cellOf (getElem? cs i))
@@ -52,17 +52,13 @@ tabs-more (u ∷ us) t = ap (λ bs. (tab ∷ u) ++ bs) (tabs-more us t) ∙ sym 
 pub part-is : (a w : ℕ) (f : List ℕ) → take (a + w - a) (drop a f) ≡ take w (drop a f)
 part-is a w f = rw (add-sub-cancel-left a w)
 
-module _ {f : List ℕ} {p : ℕ} {cs : List Cell} {i : ℕ} {c : CodeCell} (l : Lying f p cs i c) where
-  -- what is printed of the cell
-  abbrev pub printed : List ℕ
-  printed = trim (take (c .width) (drop (p + c .place) f))
+-- the width that the code finds is that of what is printed
+pub width-is : (a w : ℕ) (f : List ℕ) {n : ℕ} → n ≡ length (trim (take (a + w - a) (drop a f))) → n ≡ length (trim (take w (drop a f)))
+width-is a w f e = e ∙ ap (λ bs. length (trim bs)) (part-is a w f)
 
-  pub tabbed-more : tabbed f p (take (i + 1) cs) ≡ tabbed f p (take i cs) ++ (tab ∷ printed)
-  tabbed-more = rw (add-one i, l .more) (tabs-more (cut f p (take i cs)) printed)
-
-  -- the width that the code finds is that of it
-  pub width-is : {w : ℕ} → w ≡ length (trim (take (p + c .place + c .width - (p + c .place)) (drop (p + c .place) f))) → w ≡ length printed
-  width-is e = e ∙ ap (λ bs. length (trim bs)) (part-is (p + c .place) (c .width) f)
+tabbed-more : {f : List ℕ} {p : ℕ} {cs : List Cell} {i : ℕ} {c : CodeCell} → Lying f p cs i c
+    → tabbed f p (take (i + 1) cs) ≡ tabbed f p (take i cs) ++ (tab ∷ printed c f p)
+tabbed-more {f} {p} {cs} {i} {c} l = rw (add-one i, l .more) (tabs-more (cut f p (take i cs)) (printed c f p))
 
 -- ---- lengths
 
@@ -92,15 +88,6 @@ tabbed-short : (head : Bool) (n : ℕ) (f : List ℕ) (p : ℕ) → length (tabb
 tabbed-short head n f p =
     omega (arith, tabbed-across f p (take n (cellsOf head)), across-take n (cellsOf head), across-all head)
 
--- fewer fields are shorter
-pub tabbed-fewer : (f : List ℕ) (p : ℕ) (cs : List Cell) (i n : ℕ) → i ≤ n → length (tabbed f p (take i cs)) ≤ length (tabbed f p (take n cs))
-tabbed-fewer f p cs zero n h = omega arith
-tabbed-fewer f p cs (suc i) zero h = absurd (omega arith)
-tabbed-fewer f p [] (suc i) (suc n) h = omega arith
-tabbed-fewer f p (c ∷ cs) (suc i) (suc n) h =
-    let t = tab ∷ trim (take (width (c .kind)) (drop (p + c .place) f)) in
-    omega (arith, length-append t (tabbed f p (take i cs)), length-append t (tabbed f p (take n cs)), tabbed-fewer f p cs i n (omega arith))
-
 -- a letter, the fields and the line's end
 pub line-long : (head : Bool) (n : ℕ) (f : List ℕ) (p : ℕ) → length (lineAt head n f p) ≡ 2 + length (tabbed f p (take n (cellsOf head)))
 line-long head n f p =
@@ -125,12 +112,12 @@ module _ {head : Bool} {n : ℕ} {f : List ℕ} {p m i : ℕ} (s : Counting head
   pub count-short : m ≤ 633
   count-short = omega (arith, s .counts, tabbed-short head i f p)
 
-  pub count-more : {c : CodeCell} (l : Lying f p (cellsOf head) i c) → i < n → {w : ℕ} → w ≡ length (printed l)
+  pub count-more : {c : CodeCell} → Lying f p (cellsOf head) i c → i < n → {w : ℕ} → w ≡ length (printed c f p)
       → Counting head n f p (m + (1 + w)) (i + 1)
-  count-more l h {w} e =
+  count-more {c} l h {w} e =
       let t = tabbed f p (take i (cellsOf head)) in
-      let more : length (tabbed f p (take (i + 1) (cellsOf head))) ≡ length t + suc (length (printed l))
-      = ap length (tabbed-more l) ∙ length-append t (tab ∷ printed l) in
+      let more : length (tabbed f p (take (i + 1) (cellsOf head))) ≡ length t + suc (length (printed c f p))
+      = ap length (tabbed-more l) ∙ length-append t (tab ∷ printed c f p) in
       record { inside = omega arith; counts = omega (arith, s .counts) }
 
   pub count-ends : n ≤ i → m ≡ length (lineAt head n f p)

@@ -1,10 +1,13 @@
 -- A listing call, once the check has answered: the file's refusal, no room, or the whole listing.
 -- Assumes nothing.
-use Prim.Native.Nat.{ℕ, _≤_, _<_}
-use mathlib.Core.Path.{_≡_, refl, sym, ap, subst, _∙_}
+use Prim.Native.Nat.{ℕ, _≤_}
+use mathlib.Core.Path.{_≡_, refl, sym, ap, _∙_}
 use mathlib.Core.Logic.{_≢_, _⊎_, inl, inr, ⊎-elim}
+use mathlib.Core.Bool.{Bool, true, false, not}
 use mathlib.Core.List.{List}
 use lib.ListN.{length}
+use lib.Dec.{leb}
+use borrow.Author.Tests.{leb-true, leb-false, not-true, not-false}
 use Rattle.form.specs.Reader.{Answer, accepted, refused}
 use Rattle.rules.specs.Values.{Document}
 use Rattle.rules.specs.Writing.{Acceptable}
@@ -55,17 +58,19 @@ module _ (file old : List ℕ) {c : Checked} (told : c ≡ checkedOf (outcome (a
       let e = else-refused file (λ x. n (accepts-exactly file c told .1 x)) in
       ends-refused end old (e ∙ ap (λ (x : Checked). refuses (x .number) (x .place)) (sym told)) g
 
-  module _ (zero : c .number ≡ 0) {m : ℕ} (long : m ≡ length (listingOf file)) where
+  module _ (zero : c .number ≡ 0) where
     listing-written : end ≡ writes (listingOf file)
     listing-written = let i = listed-as file (accepts-exactly file c told .0 zero) in i ∙ ap (λ e. writes (bytesOf e)) (sym i)
 
-    -- the output is too short
-    pub list-no-room : length old < m → {r : Written} → r ≡ writtenOf (refuses 16 0) → Says file old r old
-    list-no-room h g = ends-short end old listing-written (subst (λ n. length old < n) long h) g
-
     -- all of it is written
-    pub list-full : m ≤ length old → {new : List ℕ} → new ≡ filled (listingOf file) old
+    pub list-full : length (listingOf file) ≤ length old → {m : ℕ} → m ≡ length (listingOf file) → {new : List ℕ} → new ≡ filled (listingOf file) old
         → Says file old (record { number = 0; place = 0; length = m }) new
-    list-full h n =
-        ends-written end old listing-written (subst (λ n. n ≤ length old) long h)
-        (ap (λ (m : ℕ). record { number = 0; place = 0; length = m }) long) n
+    list-full h long n = ends-written end old listing-written h (ap (λ (m : ℕ). record { number = 0; place = 0; length = m }) long) n
+
+    -- the test of the room says whether it is
+    module _ {b : Bool} (e : b ≡ leb (length (listingOf file)) (length old)) where
+      pub list-no-room : not b ≡ true → {r : Written} → r ≡ writtenOf (refuses 16 0) → Says file old r old
+      list-no-room n g = ends-short end old listing-written (leb-false (length (listingOf file)) (length old) (sym e ∙ not-true b n)) g
+
+      pub list-room : not b ≡ false → length (listingOf file) ≤ length old
+      list-room n = leb-true (length (listingOf file)) (length old) (sym e ∙ not-false b n)

@@ -21,9 +21,9 @@ use Rattle.rules.proofs.Demand2.{totals-are}
 use Rattle.rules.proofs.Demand3.{accepted-reading}
 use Rattle.listing.specs.Listing.{headerLine, paymentLine, paymentLines, listing}
 use Rattle.listing.specs.Endings.{writes, listed, bytesOf}
-use Rattle.lister.specs.Printing.{lineAt, Lies, Accepted}
+use Rattle.lister.specs.Printing.{lineAt, Lies, Formed, Accepted}
 use Rattle.lister.proofs.RecordLaws.{header-lies, header-line, header-short, payment-inside, parts-known, parts-told}
-use Rattle.lister.proofs.RecordLaws.{payment-lies, payment-line, payment-bytes, payment-short}
+use Rattle.lister.proofs.RecordLaws.{payment-lies, payment-fields-formed, payment-line, payment-bytes, payment-short}
 
 -- ---- payments
 
@@ -46,6 +46,7 @@ pub record Next (f : List ℕ) (p : ℕ) (left : List Payment) : Type 0 where
   pub known : (p + 187 ≤ length f) × T (every digit (take 2 (drop (p + 185) f)))
   pub few : partsThere f p ≤ 15
   pub lies : Lies false (12 + 2 * partsThere f p) f p
+  pub formed : Formed false (12 + 2 * partsThere f p) f p
   pub line : lineAt false (12 + 2 * partsThere f p) f p ≡ paymentLine payment
   pub bytes : 128 * section (min (partsThere f p) 15) ≡ length (writePayment payment)
   pub inside : p + length (writePayment payment) ≤ length f
@@ -65,6 +66,7 @@ next-of {f} {p} (q ∷ qs) c h =
       known = parts-known q l f p rest s;
       few = rw k (few-parts (c .kind) q l);
       lies = rw k (payment-lies q l f p rest s);
+      formed = rw k (payment-fields-formed q l f p rest s);
       line = rw k (payment-line q l f p rest s);
       bytes = rw k (payment-bytes q l f p rest s);
       inside = payment-inside q l f p rest s;

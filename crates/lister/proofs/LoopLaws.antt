@@ -96,7 +96,11 @@ module _ {f : List ℕ} {n : ℕ} {old : List ℕ} {a : ℕ} {out : List ℕ} {q
           holds = is;
         }
 
-  -- behind the last of them, where the line of A stands before
+  -- behind the last of them
+  pub list-long : n ≤ row → q ≡ length (listingOf f)
+  list-long h = omega (arith, s .here, s .first, ap length (stand-ends (s .standing) h), length-append (lineAt true 8 f 0) (s .done))
+
+  -- where the line of A stands before, all of them are there
   pub list-ends : n ≤ row → (before : List ℕ) → length (listingOf f) ≤ length before → old ≡ over 0 (lineAt true 8 f 0) before
       → out ≡ filled (listingOf f) before
   list-ends h before r o =

@@ -1,128 +1,209 @@
--- A line printed into the output: field by field behind its letter, and the line's end.
+-- A line printed into the output, field by field: what is still to come is written where the code stands, and the line is whole.
 -- Assumes nothing.
-use Prim.Native.Nat.{ℕ, suc, _+_, _-_, _≤_, _<_}
+use Prim.Native.Nat.{ℕ, zero, suc, _+_, _-_, _*_, _≤_, _<_}
 use native.Mathlib.Nat.{add-zero}
+use native.Mathlib.Numerals.{add-one}
 use native.Mathlib.Omega.{arith}
-use mathlib.Core.Path.{_≡_, refl, sym, ap, ap₂, _∙_}
-use mathlib.Core.Bool.{Bool}
+use mathlib.Core.Path.{_≡_, refl, sym, ap, ap₂, subst, _∙_}
+use mathlib.Core.Bool.{Bool, false}
 use mathlib.Core.List.{List, [], _∷_, _++_, append-assoc}
-use lib.ListN.{length, take, drop, set, length-append, length-take, length-set}
+use lib.ListN.{length, take, drop, set, getElem?, length-append, length-take, length-set, drop-of-length-le}
 use lib.Seq.{take-take}
-use Rattle.listing.specs.Lines.{tab, lineEnd}
-use Rattle.listing.specs.Records.{Cell, pad}
-use Rattle.listing.proofs.LineLaws.{length-trim, trim-take, pad-whole}
+use Rattle.form.specs.Kind.{width}
+use Rattle.listing.specs.Lines.{tab, lineEnd, behindTabs, trim}
+use Rattle.listing.specs.Records.{Cell, cut}
+use Rattle.listing.proofs.LineLaws.{length-trim, trim-take}
 use Rattle.pen.specs.declared.Cell.{Cell as CodeCell}
 use Rattle.pen.specs.Writing.{over, overIfRoom}
-use Rattle.pen.specs.Walking.{letterOf, cellsOf}
+use Rattle.pen.specs.Walking.{letterOf, cellsOf, cellOf, cellAt}
 use Rattle.pen.proofs.OverLaws.{over-room, over-length, over-nothing, over-next, over-more}
-use Rattle.lister.specs.Printing.{lineAt}
-use Rattle.lister.proofs.LineLaws.{tabbed, Lying, printed, tabbed-more, tabbed-fewer, line-long, part-is}
+use Rattle.lister.specs.Printing.{lineAt, Lies, printed, FieldLies, fieldAt, numbersAt, partAt}
+use Rattle.lister.proofs.LineLaws.{tabbed, part-is}
 
-module _ {f : List ℕ} {p : ℕ} {cs : List Cell} {i : ℕ} {c : CodeCell} (l : Lying f p cs i c) {w : ℕ} (e : w ≡ length (printed l)) where
-  -- what is printed of a cell has no more bytes than the cell
-  pub printed-narrow : w ≤ c .width
-  printed-narrow = omega (arith, length-trim (take (c .width) (drop (p + c .place) f)), length-take (c .width) (drop (p + c .place) f))
+-- ---- one field
 
-  -- so many bytes from the cell's first on are what is printed of it
-  bytes-are : pad w (take (p + c .place + w - (p + c .place)) (drop (p + c .place) f)) ≡ printed l
+module _ (a w : ℕ) (f : List ℕ) {n : ℕ} (e : n ≡ length (trim (take w (drop a f)))) where
+  -- what is printed of a field has no more bytes than the field
+  pub printed-narrow : n ≤ w
+  printed-narrow = omega (arith, length-trim (take w (drop a f)), length-take w (drop a f))
+
+  -- so many bytes from its first on are what is printed of it
+  pub bytes-are : take (a + n - a) (drop a f) ≡ trim (take w (drop a f))
   bytes-are =
-      let a = p + c .place in
-      let field = take (c .width) (drop a f) in
-      let is : take w (drop a f) ≡ printed l = sym (take-take w (c .width) (drop a f) printed-narrow) ∙ ap (λ n. take n field) e ∙ trim-take field in
-      ap (pad w) (part-is a w f ∙ is) ∙ pad-whole w (printed l) (sym e)
+      let field = take w (drop a f) in
+      part-is a n f ∙ sym (take-take n w (drop a f) printed-narrow) ∙ ap (λ m. take m field) e ∙ trim-take field
 
--- ---- the fields of a line
+-- the cell of field i, as the code has it
+module _ (head : Bool) (i : ℕ) (f : List ℕ) (p : ℕ) {c : CodeCell} (e : c ≡ cellAt head i) where
+  pub cell-inside : FieldLies head i f p → p + (c .place + c .width) ≤ length f
+  cell-inside l = subst (λ (x : CodeCell). p + (x .place + x .width) ≤ length f) (sym e) l
 
--- i of the n fields stand in the output, from q on, and there is room for the others and the line's end
-pub record Printing (f : List ℕ) (p : ℕ) (cs : List Cell) (n : ℕ) (old : List ℕ) (q : ℕ) (out : List ℕ) (at i : ℕ) : Type 0 where
-  pub inside : i ≤ n
-  pub room : q + suc (length (tabbed f p (take n cs))) ≤ length old
+  pub cell-printed : printed c f p ≡ fieldAt head i f p
+  cell-printed = ap (λ (x : CodeCell). printed x f p) e
+
+  -- all bytes of the cell are printed
+  pub cell-full : length (fieldAt head i f p) ≡ cellAt head i .width → c .width ≡ length (printed c f p)
+  cell-full l = subst (λ (x : CodeCell). x .width ≡ length (printed x f p)) (sym e) (sym l)
+
+-- a byte set is a byte written over
+set-over : (q b : ℕ) (old : List ℕ) → q < length old → set old q b ≡ over q (b ∷ []) old
+set-over q b old h = ap₂ (λ o j. set o j b) (sym (over-nothing q old)) (sym (add-zero q)) ∙ over-more q b [] old (omega arith)
+
+-- a tab, and bytes behind it
+pub behind-tab : (t old : List ℕ) (at : ℕ) → at + suc (length t) ≤ length old → overIfRoom (at + 1) t (set old at tab) ≡ over at (tab ∷ t) old
+behind-tab t old at h =
+    over-room (at + 1) t (set old at tab) (omega (arith, length-set old at tab))
+    ∙ ap (over (at + 1) t) (set-over at tab old (omega arith))
+    ∙ over-next at (tab ∷ []) t old (omega arith)
+
+-- ---- one stretch after another
+
+-- `rest i` is what comes from field i on. From field j on, whose place was `from`, to field i at `at`: with what comes from there on, the output is
+-- what it was to become
+pub record Going (rest : ℕ → List ℕ) (old : List ℕ) (from j : ℕ) (out : List ℕ) (at i : ℕ) : Type 0 where
+  pub room : at + length (rest i) ≤ length out
   pub long : length out ≡ length old
-  pub here : at ≡ q + length (tabbed f p (take i cs))
-  pub holds : out ≡ over q (tabbed f p (take i cs)) old
+  pub place : at + length (rest i) ≡ from + length (rest j)
+  pub whole : over at (rest i) out ≡ over from (rest j) old
 
-module _ {f : List ℕ} {p : ℕ} {cs : List Cell} {n : ℕ} {old : List ℕ} {q : ℕ} {out : List ℕ} {at i : ℕ} (s : Printing f p cs n old q out at i) where
-  abbrev done : List ℕ
-  done = tabbed f p (take i cs)
+module _ {rest : ℕ → List ℕ} where
+  pub going-on : {older old out : List ℕ} {q from at k j i : ℕ} → Going rest older q k old from j → Going rest old from j out at i
+      → Going rest older q k out at i
+  going-on a b = record { room = b .room; long = b .long ∙ a .long; place = b .place ∙ a .place; whole = b .whole ∙ a .whole }
 
-  module _ {c : CodeCell} (l : Lying f p cs i c) (h : i < n) {w : ℕ} (e : w ≡ length (printed l)) where
-    longer : length (tabbed f p (take (i + 1) cs)) ≡ length done + suc w
-    longer = ap length (tabbed-more l) ∙ length-append done (tab ∷ printed l) ∙ rw e
+  -- the same field, told otherwise
+  pub going-at : {old out : List ℕ} {from at j i k : ℕ} → Going rest old from j out at i → i ≡ k → Going rest old from j out at k
+  going-at {old} {out} {from} {at} {j} g e = subst (Going rest old from j out at) e g
 
-    pub field-room : at + suc w < length out
-    field-room = omega (arith, longer, tabbed-fewer f p cs (i + 1) n (omega arith), s .room, s .long, s .here)
+  module _ {old out : List ℕ} {from at j i : ℕ} (g : Going rest old from j out at i) where
+    -- where the code goes on by another loop
+    pub going-start : Going rest out at i out at i
+    going-start = record { room = g .room; long = refl; place = refl; whole = refl }
 
-    -- a tab, and the field behind it
-    pub print-more : {out′ : List ℕ}
-        → out′ ≡ overIfRoom (at + 1) (pad w (take (p + c .place + w - (p + c .place)) (drop (p + c .place) f))) (set out at tab)
-        → Printing f p cs n old q out′ (at + (1 + w)) (i + 1)
-    print-more {out′} g =
-        let fits = field-room in
-        let r : q + (length done + suc w) ≤ length old = omega (arith, s .long, s .here) in
-        let behind = done ++ (tab ∷ []) in
-        let wide : length behind ≡ length done + 1 = length-append done (tab ∷ []) in
-        let place : at + 1 ≡ q + length behind = omega (arith, s .here) in
-        let first : set out at tab ≡ over q behind old = ap₂ (λ o j. set o j tab) (s .holds) (s .here) ∙ over-more q tab done old (omega arith) in
-        let then : overIfRoom (q + length behind) (printed l) (over q behind old) ≡ over q (behind ++ printed l) old
-        = over-room (q + length behind) (printed l) (over q behind old) (omega (arith, over-length q behind old (omega arith)))
-        ∙ over-next q behind (printed l) old (omega arith) in
-        let all : behind ++ printed l ≡ tabbed f p (take (i + 1) cs) = append-assoc done (tab ∷ []) (printed l) ∙ sym (tabbed-more l) in
-        let is : out′ ≡ over q (tabbed f p (take (i + 1) cs)) old = g ∙ rw (bytes-are l e, first, place) then ∙ ap (λ bs. over q bs old) all in
-        record {
-          inside = omega arith;
-          room = s .room;
-          long = ap length is ∙ over-length q (tabbed f p (take (i + 1) cs)) old (omega (arith, longer));
-          here = omega (arith, s .here, longer);
-          holds = is;
-        }
+    -- where nothing more comes
+    pub going-ends : rest i ≡ [] → (at ≡ from + length (rest j)) × (out ≡ over from (rest j) old)
+    going-ends e =
+        let none : length (rest i) ≡ 0 = ap length e in
+        (omega (arith, g .place), sym (over-nothing at out) ∙ ap (λ bs. over at bs out) (sym e) ∙ g .whole)
 
-print-start : (f : List ℕ) (p : ℕ) (cs : List Cell) (n : ℕ) (old : List ℕ) (q : ℕ) → q + suc (length (tabbed f p (take n cs))) ≤ length old
-    → Printing f p cs n old q old q 0
-print-start f p cs n old q h =
-    record { inside = omega arith; room = h; long = refl; here = omega arith; holds = sym (over-nothing q old) }
+    -- a stretch comes, and then field k
+    module _ (t : List ℕ) (k : ℕ) (m : rest i ≡ t ++ rest k) where
+      longer : length (rest i) ≡ length t + length (rest k)
+      longer = ap length m ∙ length-append t (rest k)
+
+      pub going-room : at + length t ≤ length out
+      going-room = omega (arith, longer, g .room)
+
+      pub going-more : {out′ : List ℕ} {at′ : ℕ} → at′ ≡ at + length t → out′ ≡ over at t out → Going rest old from j out′ at′ k
+      going-more {out′} {at′} e o =
+          let fits : at + (length t + length (rest k)) ≤ length out = omega (arith, longer, g .room) in
+          let same : length out′ ≡ length out = ap length o ∙ over-length at t out (omega arith) in
+          record {
+            room = omega (arith, fits);
+            long = same ∙ g .long;
+            place = omega (arith, g .place, longer);
+            whole = ap₂ (λ q b. over q (rest k) b) e o ∙ over-next at t (rest k) out fits ∙ ap (λ bs. over at bs out) (sym m) ∙ g .whole;
+          }
+
+-- ---- what comes of a line
+
+cut-more : (f : List ℕ) (p : ℕ) (cs : List Cell) (n i : ℕ) → i < n → n ≤ length cs
+    → cut f p (drop i (take n cs)) ≡ printed (cellOf (getElem? cs i)) f p ∷ cut f p (drop (suc i) (take n cs))
+cut-more f p [] n i h l = absurd (omega arith)
+cut-more f p (c ∷ cs) zero i h l = absurd (omega arith)
+cut-more f p (c ∷ cs) (suc n) zero h l = refl
+cut-more f p (c ∷ cs) (suc n) (suc i) h l = cut-more f p cs n i (omega arith) (omega arith)
+
+cut-parted : (f : List ℕ) (p : ℕ) (cs : List Cell) (n m : ℕ) → m ≤ n → tabbed f p (take n cs) ≡ tabbed f p (take m cs) ++ tabbed f p (drop m (take n cs))
+cut-parted f p cs n zero h = refl
+cut-parted f p cs zero (suc m) h = absurd (omega arith)
+cut-parted f p [] (suc n) (suc m) h = refl
+cut-parted f p (c ∷ cs) (suc n) (suc m) h =
+    let t = tab ∷ trim (take (width (c .kind)) (drop (p + c .place) f)) in
+    ap (λ bs. t ++ bs) (cut-parted f p cs n m (omega arith)) ∙ sym (append-assoc t (tabbed f p (take m cs)) (tabbed f p (drop m (take n cs))))
+
+-- of the numbers that the line of a payment begins with
+abbrev pub numbersFrom : List ℕ → ℕ → ℕ → List ℕ
+numbersFrom f p i = tabbed f p (drop i (take 9 (cellsOf false)))
+
+pub numbers-more : (f : List ℕ) (p i : ℕ) → i < 9 → numbersFrom f p i ≡ (tab ∷ fieldAt false i f p) ++ numbersFrom f p (suc i)
+numbers-more f p i h = ap behindTabs (cut-more f p (cellsOf false) 9 i h (omega arith))
+
+-- of the line, with its end
+abbrev pub restOf : Bool → ℕ → List ℕ → ℕ → ℕ → List ℕ
+restOf head n f p i = tabbed f p (drop i (take n (cellsOf head))) ++ (lineEnd ∷ [])
+
+module _ (head : Bool) (n : ℕ) (f : List ℕ) (p : ℕ) (l : Lies head n f p) where
+  rest-field : (i : ℕ) → i < n → restOf head n f p i ≡ (tab ∷ fieldAt head i f p) ++ restOf head n f p (i + 1)
+  rest-field i h =
+      rw (cut-more f p (cellsOf head) n i h (l .0), add-one i)
+      (append-assoc (tab ∷ fieldAt head i f p) (tabbed f p (drop (suc i) (take n (cellsOf head)))) (lineEnd ∷ []))
+
+  -- the next field
+  module _ {old out : List ℕ} {from at j i : ℕ} (g : Going (restOf head n f p) old from j out at i) (h : i < n) where
+    pub field-room : at + suc (length (fieldAt head i f p)) ≤ length out
+    field-room = going-room g (tab ∷ fieldAt head i f p) (i + 1) (rest-field i h)
+
+    pub field-more : {out′ : List ℕ} {at′ : ℕ} → at′ ≡ at + suc (length (fieldAt head i f p)) → out′ ≡ over at (tab ∷ fieldAt head i f p) out
+        → Going (restOf head n f p) old from j out′ at′ (i + 1)
+    field-more = going-more g (tab ∷ fieldAt head i f p) (i + 1) (rest-field i h)
+
+-- a payment has numbers first and parts last
+module _ (n : ℕ) (f : List ℕ) (p : ℕ) (l : Lies false n f p) where
+  pub rest-numbers : 9 ≤ n → restOf false n f p 0 ≡ numbersAt f p ++ restOf false n f p 9
+  rest-numbers h =
+      ap (λ bs. bs ++ (lineEnd ∷ [])) (cut-parted f p (cellsOf false) n 9 h)
+      ∙ append-assoc (numbersAt f p) (tabbed f p (drop 9 (take n (cellsOf false)))) (lineEnd ∷ [])
+
+  pub rest-part : (part : ℕ) → 12 + 2 * part + 1 < n → restOf false n f p (12 + 2 * part) ≡ partAt part f p ++ restOf false n f p (12 + 2 * (part + 1))
+  rest-part part h =
+      let mark = 12 + 2 * part in
+      let m = tab ∷ fieldAt false mark f p in
+      let t = tab ∷ fieldAt false (mark + 1) f p in
+      let next : mark + 1 + 1 ≡ 12 + 2 * (part + 1) = omega arith in
+      rest-field false n f p l mark (omega arith)
+      ∙ ap (λ bs. m ++ bs) (rest-field false n f p l (mark + 1) h ∙ ap (λ i. t ++ restOf false n f p i) next)
+      ∙ sym (append-assoc m t (restOf false n f p (12 + 2 * (part + 1))))
 
 -- ---- the line
 
 -- the line's end, at its place, makes it whole
 pub record Ended (head : Bool) (n : ℕ) (f : List ℕ) (p : ℕ) (old : List ℕ) (q : ℕ) (out : List ℕ) (at : ℕ) : Type 0 where
   pub room : at < length out
+  pub long : length out ≡ length old
   pub place : at + 1 ≡ q + length (lineAt head n f p)
   pub whole : set out at lineEnd ≡ over q (lineAt head n f p) old
 
-module _ (head : Bool) (n : ℕ) (f : List ℕ) (p : ℕ) (old : List ℕ) (q : ℕ) (h : q + length (lineAt head n f p) ≤ length old) (letter : ℕ) where
-  abbrev cs : List Cell
-  cs = cellsOf head
+module _ (head : Bool) (n : ℕ) (f : List ℕ) (p : ℕ) (old : List ℕ) (q : ℕ) (h : q + length (lineAt head n f p) ≤ length old) (letter : ℕ)
+    (is : letterOf head ≡ letter ∷ []) where
+  abbrev fields : List ℕ
+  fields = restOf head n f p 0
 
-  pub line-start : Printing f p cs n (set old q letter) (q + 1) (set old q letter) (q + 1) 0
-  line-start = print-start f p cs n (set old q letter) (q + 1) (omega (arith, h, line-long head n f p, length-set old q letter))
+  line-is : lineAt head n f p ≡ letter ∷ fields
+  line-is = ap (λ bs. bs ++ fields) is
 
-  -- behind its last field
-  module _ {out : List ℕ} {at i : ℕ} (s : Printing f p cs n (set old q letter) (q + 1) out at i) (e : n ≤ i) where
-    abbrev all : List ℕ
-    all = tabbed f p (take n cs)
+  long-line : length (lineAt head n f p) ≡ suc (length fields)
+  long-line = ap length line-is
 
-    last : i ≡ n
-    last = omega (arith, s .inside)
+  -- behind the letter
+  pub line-start : Going (restOf head n f p) (set old q letter) (q + 1) 0 (set old q letter) (q + 1) 0
+  line-start = record { room = omega (arith, h, long-line, length-set old q letter); long = refl; place = refl; whole = refl }
 
-    here-last : at ≡ q + 1 + length all
-    here-last = s .here ∙ rw last
-
-    whole-line : letter ∷ [] ≡ letterOf head → set out at lineEnd ≡ over q (lineAt head n f p) old
-    whole-line is =
-        let r : q + 1 + suc (length all) ≤ length old = omega (arith, s .room, length-set old q letter) in
-        let first : set old q letter ≡ over q (letter ∷ []) old
-        = ap₂ (λ o j. set o j letter) (sym (over-nothing q old)) (sym (add-zero q)) ∙ over-more q letter [] old (omega arith) in
-        let holds : out ≡ over (q + 1) all (set old q letter) = s .holds ∙ rw last in
-        ap₂ (λ o j. set o j lineEnd) holds here-last
-        ∙ over-more (q + 1) lineEnd all (set old q letter) (s .room)
-        ∙ ap (over (q + 1) (all ++ (lineEnd ∷ []))) first
-        ∙ over-next q (letter ∷ []) (all ++ (lineEnd ∷ [])) old (omega (arith, length-append all (lineEnd ∷ [])))
-        ∙ ap (λ bs. over q (bs ++ (all ++ (lineEnd ∷ []))) old) is
-
-    pub line-ends : letter ∷ [] ≡ letterOf head → Ended head n f p old q out at
-    line-ends is =
-        record {
-          room = omega (arith, here-last, s .room, s .long);
-          place = omega (arith, here-last, line-long head n f p);
-          whole = whole-line is;
-        }
+  -- behind the last field
+  pub line-ends : {out : List ℕ} {at i : ℕ} → n ≤ i → Going (restOf head n f p) (set old q letter) (q + 1) 0 out at i → Ended head n f p old q out at
+  line-ends {out} {at} {i} e g =
+      let few : length (take n (cellsOf head)) ≤ i = omega (arith, length-take n (cellsOf head)) in
+      let none : restOf head n f p i ≡ lineEnd ∷ []
+      = ap (λ cs. tabbed f p cs ++ (lineEnd ∷ [])) (drop-of-length-le (take n (cellsOf head)) few) in
+      let one : length (restOf head n f p i) ≡ 1 = ap length none in
+      record {
+        room = omega (arith, g .room);
+        long = g .long ∙ length-set old q letter;
+        place = omega (arith, g .place, long-line);
+        whole = set-over at lineEnd out (omega (arith, g .room))
+            ∙ ap (λ bs. over at bs out) (sym none)
+            ∙ g .whole
+            ∙ ap (over (q + 1) fields) (set-over q letter old (omega (arith, h, long-line)))
+            ∙ over-next q (letter ∷ []) fields old (omega (arith, h, long-line))
+            ∙ ap (λ bs. over q bs old) (sym line-is);
+      }

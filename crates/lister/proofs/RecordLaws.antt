@@ -27,7 +27,7 @@ use Rattle.listing.proofs.HeaderLaws.{span-A, header-laid, header-formed}
 use Rattle.listing.proofs.PaymentLaws.{span-C, payment-laid, payment-formed}
 use Rattle.pen.specs.Walking.{cellsOf}
 use Rattle.pen.proofs.CellLaws.{fields-first}
-use Rattle.lister.specs.Printing.{lineAt, Lies}
+use Rattle.lister.specs.Printing.{lineAt, Lies, Formed}
 use Rattle.lister.proofs.LineLaws.{across, tabbed-across, line-long}
 
 -- ---- the cells of a record
@@ -130,11 +130,17 @@ module _ {kind : List ℕ} (q : Payment) (l : LegalPayment kind q) where
         let n : length (cellsOf false) ≡ 42 = refl in
         (omega (arith, few), rw (← fields-first k few) (cells-lie f p 0 (recordC k) (omega (arith, payment-length kind q l, span-C k few))))
 
+    -- its fields are cut out of the file
+    payment-cut : cut f p (take (12 + 2 * k) (cellsOf false)) ≡ paymentFields q
+    payment-cut =
+        ap (cut f p) (sym (fields-first k few))
+        ∙ cut-laid f p (recordC k) (paymentFields q) rest (payment-formed kind q l) (s ∙ ap (λ bs. bs ++ rest) (sym (payment-laid kind q l)))
+
+    pub payment-fields-formed : Formed false (12 + 2 * k) f p
+    payment-fields-formed = rw (payment-cut, ← fields-first k few) (payment-formed kind q l)
+
     pub payment-line : lineAt false (12 + 2 * k) f p ≡ paymentLine q
-    payment-line =
-        ap (λ cs. line (ascii "C") (cut f p cs)) (sym (fields-first k few))
-        ∙ ap (line (ascii "C"))
-        (cut-laid f p (recordC k) (paymentFields q) rest (payment-formed kind q l) (s ∙ ap (λ bs. bs ++ rest) (sym (payment-laid kind q l))))
+    payment-line = ap (line (ascii "C")) payment-cut
 
     pub payment-bytes : 128 * section (min k 15) ≡ length (writePayment q)
     payment-bytes = let m : min k 15 ≡ k = omega (arith, few) in rw m (sym (payment-length kind q l))

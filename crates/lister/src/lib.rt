@@ -1,17 +1,28 @@
 // Listing: the file is checked, then the room in the output, and only then is a byte written.
 ghost use mathlib.Core.Path.{_≡_};
-ghost use Prim.Native.Nat.{_+_, _≤_};
+ghost use Prim.Native.Nat.{suc, _+_, _*_, _≤_, _<_};
+ghost use mathlib.Core.Bool.{true, false};
+ghost use mathlib.Core.List.{_∷_};
 ghost use lib.ListN.{length, take, drop};
-ghost use lib.Dec.{T};
+ghost use lib.Dec.{T, leb};
 ghost use Rattle.form.specs.Kind.{every, digit};
 ghost use Rattle.form.specs.Reader.{number};
 ghost use Rattle.rules.specs.Answer.{answer, filled};
-ghost use Rattle.listing.specs.Lines.{trim};
+ghost use Rattle.listing.specs.Lines.{tab, trim};
 ghost use Rattle.listing.specs.Endings.{listed, within, bytesOf};
 ghost use Rattle.pen.specs.Writing.{over, writtenOf};
-ghost use Rattle.lister.specs.Printing.{lineAt, Lies, Accepted};
+ghost use Rattle.pen.specs.Walking.{cellAt};
+ghost use Rattle.lister.specs.Printing.{lineAt, Lies, Formed, FieldLies, fieldAt, NumbersLie, numbersAt, PartLies, partAt, Accepted};
 use fields::numbers;
 use pen::Written;
+
+// How many numbers the line of a payment begins with.
+const NUMBERS: usize = 9;
+
+// How wide the mark of a part is, and its text.
+const MARK: usize = 2;
+
+const TEXT: usize = 27;
 
 // How many bytes of t there are without its trailing blanks.
 fn trimmed(t: &[u8]) -> usize
@@ -43,23 +54,111 @@ fn line_length(head: bool, n: usize, s: &[u8], p: usize) -> usize
     length
 }
 
-// Prints that line into the output from q on, and tells the place behind it.
-fn print_line(head: bool, n: usize, s: &[u8], p: usize, out: &mut [u8], q: usize) -> usize
-    requires { ⌜ Lies head n (now s) p × (q + length (lineAt head n (now s) p) ≤ length (now out)) ⌝ }
-    ensures place { λ r. ⌜ r ≡ q + length (lineAt head n (now (s .entry)) p) ⌝ }
-    ensures out { λ _. ⌜ now (out .exit) ≡ over q (lineAt head n (now (s .entry)) p) (now (out .entry)) ⌝ }
+// Prints a tab and the bytes of t into the output from `at` on, and tells the place behind them.
+fn print_behind_tab(t: &[u8], out: &mut [u8], at: usize) -> usize
+    requires { ⌜ at + suc (length (now t)) ≤ length (now out) ⌝ }
+    ensures place { λ r. ⌜ r ≡ at + suc (length (now (t .entry))) ⌝ }
+    ensures out { λ _. ⌜ now (out .exit) ≡ over at (tab ∷ now (t .entry)) (now (out .entry)) ⌝ }
 {
-    out[q] = pen::letter(head);
-    let mut at = q + 1;
+    out[at] = pen::TAB;
+    pen::copy(out, at + 1, t);
+    at + 1 + t.len()
+}
+
+// Prints the field of w bytes at a so, without its trailing blanks.
+fn print_trimmed(s: &[u8], a: usize, w: usize, out: &mut [u8], at: usize) -> usize
+    requires { ⌜ (a + w ≤ length (now s)) × (at + suc (length (trim (take w (drop a (now s))))) ≤ length (now out)) ⌝ }
+    ensures place { λ r. ⌜ r ≡ at + suc (length (trim (take w (drop a (now (s .entry)))))) ⌝ }
+    ensures out { λ _. ⌜ now (out .exit) ≡ over at (tab ∷ trim (take w (drop a (now (s .entry))))) (now (out .entry)) ⌝ }
+{
+    let n = trimmed(&s[a..a + w]);
+    print_behind_tab(&s[a..a + n], out, at)
+}
+
+// Prints field i of the record at p so.
+fn print_field(head: bool, i: usize, s: &[u8], p: usize, out: &mut [u8], at: usize) -> usize
+    requires { ⌜ FieldLies head i (now s) p × (at + suc (length (fieldAt head i (now s) p)) ≤ length (now out)) ⌝ }
+    ensures place { λ r. ⌜ r ≡ at + suc (length (fieldAt head i (now (s .entry)) p)) ⌝ }
+    ensures out { λ _. ⌜ now (out .exit) ≡ over at (tab ∷ fieldAt head i (now (s .entry)) p) (now (out .entry)) ⌝ }
+{
+    let c = pen::cell_at(head, i);
+    print_trimmed(s, p + c.place, c.width, out, at)
+}
+
+// Prints field i of the payment at p, a number: it stands there in full width, so that no blank is looked for.
+fn print_number(i: usize, s: &[u8], p: usize, out: &mut [u8], at: usize) -> usize
+    requires { ⌜ FieldLies false i (now s) p × (length (fieldAt false i (now s) p) ≡ cellAt false i .width) × (at + suc (length (fieldAt false i (now s) p)) ≤ length (now out)) ⌝ }
+    ensures place { λ r. ⌜ r ≡ at + suc (length (fieldAt false i (now (s .entry)) p)) ⌝ }
+    ensures out { λ _. ⌜ now (out .exit) ≡ over at (tab ∷ fieldAt false i (now (s .entry)) p) (now (out .entry)) ⌝ }
+{
+    let c = pen::cell_at(false, i);
+    let a = p + c.place;
+    print_behind_tab(&s[a..a + c.width], out, at)
+}
+
+// Prints the line of A from the start of the output on, and tells the place behind it.
+fn print_header(s: &[u8], out: &mut [u8]) -> usize
+    requires { ⌜ Lies true 8 (now s) 0 × (0 + length (lineAt true 8 (now s) 0) ≤ length (now out)) ⌝ }
+    ensures place { λ r. ⌜ r ≡ 0 + length (lineAt true 8 (now (s .entry)) 0) ⌝ }
+    ensures out { λ _. ⌜ now (out .exit) ≡ over 0 (lineAt true 8 (now (s .entry)) 0) (now (out .entry)) ⌝ }
+{
+    out[0] = pen::letter(true);
+    let mut at = 1;
     let mut i = 0;
-    while i < n {
-        let c = pen::cell_at(head, i);
-        let a = p + c.place;
-        let w = trimmed(&s[a..a + c.width]);
-        out[at] = pen::TAB;
-        pen::put(out, at + 1, &s[a..a + w], w);
-        at += 1 + w;
+    while i < pen::FIELDS_OF_A {
+        at = print_field(true, i, s, 0, out, at);
         i += 1;
+    }
+    out[at] = pen::LINE_END;
+    at + 1
+}
+
+// Prints the numbers that the line of a payment begins with. They are written out one by one, so that the compiler knows the width of each.
+fn print_numbers(s: &[u8], p: usize, out: &mut [u8], at: usize) -> usize
+    requires { ⌜ NumbersLie (now s) p × (at + length (numbersAt (now s) p) ≤ length (now out)) ⌝ }
+    ensures place { λ r. ⌜ r ≡ at + length (numbersAt (now (s .entry)) p) ⌝ }
+    ensures out { λ _. ⌜ now (out .exit) ≡ over at (numbersAt (now (s .entry)) p) (now (out .entry)) ⌝ }
+{
+    let mut q = print_number(0, s, p, out, at);
+    q = print_number(1, s, p, out, q);
+    q = print_number(2, s, p, out, q);
+    q = print_number(3, s, p, out, q);
+    q = print_number(4, s, p, out, q);
+    q = print_number(5, s, p, out, q);
+    q = print_number(6, s, p, out, q);
+    q = print_number(7, s, p, out, q);
+    print_number(8, s, p, out, q)
+}
+
+// Prints mark and text of a part of the payment at p. All parts have the same widths.
+fn print_part(part: usize, s: &[u8], p: usize, out: &mut [u8], at: usize) -> usize
+    requires { ⌜ (part < 15) × PartLies part (now s) p × (at + length (partAt part (now s) p) ≤ length (now out)) ⌝ }
+    ensures place { λ r. ⌜ r ≡ at + length (partAt part (now (s .entry)) p) ⌝ }
+    ensures out { λ _. ⌜ now (out .exit) ≡ over at (partAt part (now (s .entry)) p) (now (out .entry)) ⌝ }
+{
+    let c = pen::cell_at(false, pen::FIELDS_OF_C + 2 * part);
+    let a = p + c.place;
+    let q = print_behind_tab(&s[a..a + MARK], out, at);
+    print_trimmed(s, a + MARK, TEXT, out, q)
+}
+
+// Prints the line of the payment at p, of k parts, into the output from q on, and tells the place behind it.
+fn print_payment(k: usize, s: &[u8], p: usize, out: &mut [u8], q: usize) -> usize
+    requires { ⌜ Lies false (12 + 2 * k) (now s) p × Formed false (12 + 2 * k) (now s) p × (q + length (lineAt false (12 + 2 * k) (now s) p) ≤ length (now out)) ⌝ }
+    ensures place { λ r. ⌜ r ≡ q + length (lineAt false (12 + 2 * k) (now (s .entry)) p) ⌝ }
+    ensures out { λ _. ⌜ now (out .exit) ≡ over q (lineAt false (12 + 2 * k) (now (s .entry)) p) (now (out .entry)) ⌝ }
+{
+    out[q] = pen::letter(false);
+    let mut at = print_numbers(s, p, out, q + 1);
+    let mut i = NUMBERS;
+    while i < pen::FIELDS_OF_C {
+        at = print_field(false, i, s, p, out, at);
+        i += 1;
+    }
+    let mut part = 0;
+    while part < k {
+        at = print_part(part, s, p, out, at);
+        part += 1;
     }
     out[at] = pen::LINE_END;
     at + 1
@@ -92,20 +191,34 @@ fn listing_length(s: &[u8], n: usize) -> usize
     length
 }
 
-// Prints it.
-fn print_listing(s: &[u8], n: usize, out: &mut [u8])
-    requires { ⌜ Accepted n (now s) × (length (bytesOf (listed (answer (now s)))) ≤ length (now out)) ⌝ }
-    ensures { λ _. ⌜ now (out .exit) ≡ filled (bytesOf (listed (answer (now (s .entry))))) (now (out .entry)) ⌝ }
+// Whether an output of so many bytes has room for it.
+fn has_room(s: &[u8], n: usize, room: usize) -> bool
+    requires { ⌜ Accepted n (now s) ⌝ }
+    ensures { λ r. ⌜ r ≡ leb (length (bytesOf (listed (answer (now (s .entry)))))) room ⌝ }
 {
-    let mut q = print_line(true, pen::FIELDS_OF_A, s, 0, out, 0);
+    // No listing is longer than its file, so that lines are measured only where the output is shorter.
+    if s.len() <= room {
+        return true;
+    }
+    listing_length(s, n) <= room
+}
+
+// Prints it, and tells its length.
+fn print_listing(s: &[u8], n: usize, out: &mut [u8]) -> usize
+    requires { ⌜ Accepted n (now s) × (length (bytesOf (listed (answer (now s)))) ≤ length (now out)) ⌝ }
+    ensures length { λ r. ⌜ r ≡ length (bytesOf (listed (answer (now (s .entry))))) ⌝ }
+    ensures out { λ _. ⌜ now (out .exit) ≡ filled (bytesOf (listed (answer (now (s .entry))))) (now (out .entry)) ⌝ }
+{
+    let mut q = print_header(s, out);
     let mut p = pen::FIRST_PAYMENT;
     let mut row = 0;
     while row < n {
         let k = parts_at(s, p);
-        q = print_line(false, pen::FIELDS_OF_C + 2 * k, s, p, out, q);
+        q = print_payment(k, s, p, out, q);
         p += pen::bytes_of(k);
         row += 1;
     }
+    q
 }
 
 // Lists a file: one line for A, one for each payment. What a refused call is lent it leaves as it was.
@@ -118,11 +231,10 @@ pub fn list(s: &[u8], out: &mut [u8]) -> Written
         return pen::refused(checked.number, checked.place);
     }
     let n = checked.count as usize;
-    let length = listing_length(s, n);
-    if out.len() < length {
+    if !has_room(s, n, out.len()) {
         return pen::refused(numbers::NO_ROOM, 0);
     }
-    print_listing(s, n, out);
+    let length = print_listing(s, n, out);
     Written {
         number: 0,
         place: 0,

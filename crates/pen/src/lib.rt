@@ -189,6 +189,20 @@ pub fn put(out: &mut [u8], p: usize, t: &[u8], w: usize)
     }
 }
 
+// The bytes of t as they are, into the output from p on.
+pub fn copy(out: &mut [u8], p: usize, t: &[u8])
+    ensures { λ _. ⌜ now (out .exit) ≡ overIfRoom p (now (t .entry)) (now (out .entry)) ⌝ }
+{
+    if !fields::whole(out.len(), p, t.len()) {
+        return;
+    }
+    let mut i = 0;
+    while i < t.len() {
+        out[p + i] = t[i];
+        i += 1;
+    }
+}
+
 // The last w digits of v, into the output from p on.
 pub fn put_number(out: &mut [u8], p: usize, v: u64, w: usize)
     ensures { λ _. ⌜ now (out .exit) ≡ overIfRoom p (numeral w (v % 10 ^ w)) (now (out .entry)) ⌝ }

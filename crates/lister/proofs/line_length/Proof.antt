@@ -28,7 +28,7 @@ here c =
 more : tie.Need-loop-again Inv-loop μ-loop
 more c =
     let l = c .before .before .before .before in
-    count-more (l .before .before .loop .inv) (here l) (l .before .loop-test .taken) (width-is (here l) (c .trimmed .ensures))
+    count-more (l .before .before .loop .inv) (here l) (l .before .loop-test .taken) (width-is _ (l .cell-at .result .width) _ (c .trimmed .ensures))
 
 loop-holds : tie.Need-loop-holds Inv-loop μ-loop
 loop-holds c = count-start _ _ _ _

@@ -4,7 +4,7 @@ use Prim.Native.Nat.{_-_}
 use native.Mathlib.Omega.{arith}
 use borrow.Author.Needs.{needs}
 use Rattle.lister.proofs.ListingLaws.{A-lies, Next, next, step-inside}
-use Rattle.lister.proofs.LoopLaws.{Listing, A-room, list-start, line-room, list-more, list-ends}
+use Rattle.lister.proofs.LoopLaws.{Listing, A-room, list-start, line-room, list-more, list-long, list-ends}
 use Rattle.lister.proofs.print_listing.Statement.{statement}
 use Rattle.lister.proofs.print_listing.Tie as tie
 
@@ -21,26 +21,23 @@ begun c = c .before .before .before .before .before .before
 here : (c : tie.In-loop Inv-loop μ-loop) → Next (begun (c .before .before) .args .s .now) (c .before .loop .p) (c .before .loop .inv .standing .left)
 here c = next (c .before .loop .inv .standing) (c .loop-test .taken)
 
-print-line-requires : tie.Need-print-line-requires Inv-loop μ-loop
-print-line-requires c κs = let b = c .before .before .before in (A-lies _ _ (b .pre .0), A-room _ _ (b .pre .0) (b .args .out .now) (b .pre .1))
+print-header-requires : tie.Need-print-header-requires Inv-loop μ-loop
+print-header-requires c κs = let b = c .before .before .before in (A-lies _ _ (b .pre .0), A-room _ _ (b .pre .0) (b .args .out .now) (b .pre .1))
 
 loop-holds : tie.Need-loop-holds Inv-loop μ-loop
-loop-holds c = let b = begun c in let e = c .before .before .print-line .ensures in list-start _ _ (b .pre .0) _ (b .pre .1) (e .0) (e .1)
+loop-holds c = let b = begun c in let e = c .before .before .print-header .ensures in list-start _ _ (b .pre .0) _ (b .pre .1) (e .0) (e .1)
 
 parts-at-requires : tie.Need-parts-at-requires Inv-loop μ-loop
 parts-at-requires c κs = here c .known
 
-mul-print-line : tie.Need-mul-print-line Inv-loop μ-loop
-mul-print-line c = let f = here (c .before) .few in let e = c .parts-at .ensures in omega arith
-
-add-print-line : tie.Need-add-print-line Inv-loop μ-loop
-add-print-line c = let f = here (c .before) .few in let e = c .parts-at .ensures in omega arith
-
-print-line-requires-2 : tie.Need-print-line-requires-2 Inv-loop μ-loop
-print-line-requires-2 c κs =
+print-payment-requires : tie.Need-print-payment-requires Inv-loop μ-loop
+print-payment-requires c κs =
     let t = c .before in
-    let l = t .before in
-    (rw (t .parts-at .ensures) (here l .lies), line-room (l .before .loop .inv) (l .loop-test .taken) (t .parts-at .ensures))
+    let l = t .before in (
+      rw (t .parts-at .ensures) (here l .lies),
+      rw (t .parts-at .ensures) (here l .formed),
+      line-room (l .before .loop .inv) (l .loop-test .taken) (t .parts-at .ensures),
+    )
 
 bytes-of-requires : tie.Need-bytes-of-requires Inv-loop μ-loop
 bytes-of-requires c κs = search needs
@@ -60,7 +57,7 @@ loop-less c = omega arith
 loop-again : tie.Need-loop-again Inv-loop μ-loop
 loop-again c =
     let t = c .before .before .before .before .before in
-    let e = c .before .before .before .print-line2 .ensures in
+    let e = c .before .before .before .print-payment .ensures in
     list-more (t .before .before .loop .inv) (t .before .loop-test .taken) (t .parts-at .ensures) (e .0) (e .1) (c .bytes-of .ensures)
 
 same-length : tie.Need-same-length Inv-loop μ-loop
@@ -69,7 +66,9 @@ same-length c = omega arith
 returns : tie.Need-returns Inv-loop μ-loop
 returns c =
     let j = c .before .before in
-    list-ends (c .before .loop .inv) (c .loop-test .left) (begun j .args .out .now) (begun j .pre .1) (j .before .before .print-line .ensures .1)
+    let s = c .before .loop .inv in
+    let h = c .loop-test .left in
+    (list-long s h, list-ends s h (begun j .args .out .now) (begun j .pre .1) (j .before .before .print-header .ensures .1))
 
 pub print-listing-spec : {M : Type 1} → statement M
 print-listing-spec =
@@ -77,12 +76,10 @@ print-listing-spec =
     (tie.spec
     Inv-loop
     μ-loop
-    print-line-requires
+    print-header-requires
     loop-holds
     parts-at-requires
-    mul-print-line
-    add-print-line
-    print-line-requires-2
+    print-payment-requires
     bytes-of-requires
     add-p
     add-row

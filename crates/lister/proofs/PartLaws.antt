@@ -1,0 +1,66 @@
+-- A part of a payment: mark and text stand side by side, and one is printed behind the other.
+-- Assumes nothing.
+use Prim.Native.Nat.{ℕ, _+_, _-_, _*_, _≤_, _<_}
+use native.Mathlib.Omega.{arith}
+use mathlib.Core.Path.{_≡_, refl, sym, ap, ap₂, _∙_}
+use mathlib.Core.Bool.{false}
+use mathlib.Core.List.{List, _++_}
+use lib.ListN.{length, take, drop, length-append}
+use Rattle.form.specs.Kind.{numeral}
+use Rattle.form.proofs.BelowLaws.{below, agree}
+use Rattle.rules.specs.Writing.{toSectionEnd, toNextPart}
+use Rattle.listing.specs.Lines.{trim}
+use Rattle.pen.specs.declared.Cell.{Cell as CodeCell}
+use Rattle.pen.specs.Writing.{over}
+use Rattle.pen.specs.Walking.{cellAt}
+use Rattle.pen.proofs.OverLaws.{over-length, over-next}
+use Rattle.lister.specs.Printing.{fieldAt, PartLies}
+use Rattle.lister.proofs.PrintLaws.{bytes-are, cell-printed, cell-full}
+
+module _ (part : ℕ) (h : part < 15) where
+  mark-width : cellAt false (12 + 2 * part) .width ≡ 2
+  unfolding below numeral toSectionEnd toNextPart
+  mark-width = agree (λ k. cellAt false (12 + 2 * k) .width) (λ k. 2) 15 part refl h
+
+  text-width : cellAt false (12 + 2 * part + 1) .width ≡ 27
+  unfolding below numeral toSectionEnd toNextPart
+  text-width = agree (λ k. cellAt false (12 + 2 * k + 1) .width) (λ k. 27) 15 part refl h
+
+  text-place : cellAt false (12 + 2 * part + 1) .place ≡ cellAt false (12 + 2 * part) .place + 2
+  unfolding below numeral toSectionEnd toNextPart
+  text-place = agree (λ k. cellAt false (12 + 2 * k + 1) .place) (λ k. cellAt false (12 + 2 * k) .place + 2) 15 part refl h
+
+  -- the code has the cell of the mark
+  module _ (f : List ℕ) (p : ℕ) (l : PartLies part f p) {c : CodeCell} (e : c ≡ cellAt false (12 + 2 * part)) where
+    abbrev a : ℕ
+    a = p + c .place
+
+    place-is : c .place ≡ cellAt false (12 + 2 * part) .place
+    place-is = ap (λ (x : CodeCell). x .place) e
+
+    pub part-inside : a + 2 + 27 ≤ length f
+    part-inside = omega (arith, l .1, text-width, text-place, place-is)
+
+    pub mark-bytes : take (a + 2 - a) (drop a f) ≡ fieldAt false (12 + 2 * part) f p
+    mark-bytes =
+        let two : 2 ≡ c .width = sym (ap (λ (x : CodeCell). x .width) e ∙ mark-width) in
+        bytes-are a (c .width) f (two ∙ cell-full false (12 + 2 * part) f p e (l .2)) ∙ cell-printed false (12 + 2 * part) f p e
+
+    pub text-bytes : trim (take 27 (drop (a + 2) f)) ≡ fieldAt false (12 + 2 * part + 1) f p
+    text-bytes =
+        let place : a + 2 ≡ p + cellAt false (12 + 2 * part + 1) .place = omega (arith, text-place, place-is) in
+        ap₂ (λ w j. trim (take w (drop j f))) (sym text-width) place
+
+-- one stretch behind the other
+module _ (m t old : List ℕ) (at : ℕ) (r : at + length (m ++ t) ≤ length old) {mid : List ℕ} (o : mid ≡ over at m old) where
+  both : length (m ++ t) ≡ length m + length t
+  both = length-append m t
+
+  first-room : at + length m ≤ length old
+  first-room = omega (arith, both, r)
+
+  pub second-room : at + length m + length t ≤ length mid
+  second-room = omega (arith, both, r, ap length o, over-length at m old first-room)
+
+  pub both-over : over (at + length m) t mid ≡ over at (m ++ t) old
+  both-over = ap (over (at + length m) t) o ∙ over-next at m t old (omega (arith, both, r))
