@@ -1,51 +1,49 @@
 -- A line byte by byte: its tabs part its fields, it begins with a letter and a tab, and a field may end in a blank.
 -- Assumes nothing.
 use Prim.Native.Nat.{ℕ, suc, _+_, _-_, _≤_, _<_}
-use native.Mathlib.Numerals.{add-one}
 use native.Mathlib.Omega.{arith}
-use mathlib.Core.Path.{_≡_, refl, sym}
+use mathlib.Core.Path.{_≡_, refl, sym, ap}
 use mathlib.Core.Bool.{Bool, true, false, _&&_}
 use mathlib.Core.List.{List, [], _∷_}
-use lib.ListN.{length, drop, getD, drop-of-length-le}
-use lib.Seq.{drop-cons}
+use lib.ListN.{length, drop, getD, length-drop}
 use lib.Dec.{eqb}
 use borrow.Author.Tests.{eqb-true, eqb-false, eq-eqb, ne-eqb}
 use Rattle.fields.proofs.StretchLaws.{and-true}
-use Rattle.listing.specs.Lines.{tab, onto, split, endsInBlank}
-use Rattle.listing.proofs.LineLaws.{Some, some, split-some}
-use Rattle.pen.specs.Walking.{letterOf}
+use Rattle.listing.specs.Lines.{tab, split, endsInBlank}
+use Rattle.pen.specs.Walking.{letterOf, reach}
+use Rattle.pen.proofs.ReachLaws.{reach-le, pieces-more, pieces-last}
 use Rattle.composer.proofs.WalkLaws.{begins, at-begun}
 
 -- ---- how many fields
 
-onto-length : (b : ℕ) (r : List (List ℕ)) → Some r → length (onto b r) ≡ length r
-onto-length b r (some t ts) = refl
+-- so many fields begin up to place q, and the last of them ends at e
+pub record Counting (x : List ℕ) (e fields : ℕ) : Type 0 where
+  pub q : ℕ
+  pub inside : q ≤ length x
+  pub ends : e ≡ q + reach tab (drop q x)
+  pub few : fields ≤ q + 1
+  pub all : length (split tab x) + 1 ≡ fields + length (split tab (drop q x))
 
--- so many tabs stand before place i
-pub record Tabs (x : List ℕ) (i tabs : ℕ) : Type 0 where
-  pub inside : i ≤ length x
-  pub few : tabs ≤ i
-  pub fields : length (split tab x) ≡ tabs + length (split tab (drop i x))
+pub count-first : (x : List ℕ) (e : ℕ) → e ≡ 0 + reach tab (drop 0 x) → Counting x e 1
+count-first x e r = record { q = 0; inside = omega arith; ends = r; few = omega arith; all = omega arith }
 
-module _ {x : List ℕ} {i tabs : ℕ} (w : Tabs x i tabs) where
-  pub tabs-one : i < length x → getD x i 0 ≡ tab → Tabs x (i + 1) (tabs + 1)
-  unfolding split
-  tabs-one h e =
-      let k : length (split tab (drop i x)) ≡ suc (length (split tab (drop (i + 1) x)))
-      = rw (add-one i, drop-cons x i 0 h, eq-eqb (getD x i 0) tab e) in
-      record { inside = omega arith; few = omega arith; fields = omega arith }
+module _ {x : List ℕ} {e fields : ℕ} (w : Counting x e fields) where
+  pub count-inside : (fields ≤ e + 1) × (e ≤ length x)
+  count-inside = (omega (arith, w .few, w .ends), omega (arith, w .ends, w .inside, reach-le tab (drop (w .q) x), length-drop (w .q) x))
 
-  pub tabs-none : i < length x → (getD x i 0 ≡ tab → ⊥) → Tabs x (i + 1) tabs
-  unfolding split
-  tabs-none h n =
-      let on = onto-length (getD x i 0) (split tab (drop (suc i) x)) (split-some tab (drop (suc i) x)) in
-      let k : length (split tab (drop i x)) ≡ length (split tab (drop (i + 1) x))
-      = rw (add-one i, drop-cons x i 0 h, ne-eqb (getD x i 0) tab n) on in
-      record { inside = omega arith; few = omega arith; fields = omega arith }
+  far : e - w .q ≡ reach tab (drop (w .q) x)
+  far = omega (arith, w .ends)
 
-  pub tabs-all : length x ≤ i → tabs + 1 ≡ length (split tab x)
-  unfolding split
-  tabs-all h = let k : length (split tab (drop i x)) ≡ 1 = rw (drop-of-length-le x h) in omega arith
+  pub count-more : e < length x → (d : ℕ) → d ≡ e + 1 + reach tab (drop (e + 1) x) → Counting x d (fields + 1)
+  count-more h d r =
+      let m = ap length (pieces-more tab x (w .q) (e - w .q) far (omega (arith, w .ends))) in
+      let n : w .q + suc (e - w .q) ≡ e + 1 = omega (arith, w .ends) in
+      record { q = e + 1; inside = omega arith; ends = r; few = omega (arith, count-inside); all = omega (arith, w .all, rw n at m) }
+
+  pub count-last : length x ≤ e → fields ≡ length (split tab x)
+  count-last h =
+      let m = ap length (pieces-last tab x (w .q) (e - w .q) far (omega (arith, w .ends, count-inside))) in
+      omega (arith, w .all, m)
 
 -- ---- the last byte
 

@@ -39,7 +39,7 @@ same-or-less : (n w : ℕ) (b : Bool) → eqb n w ≡ b → (b || (leb n w || fa
 same-or-less n w true e = sym (le-leb n w (omega (arith, eqb-true n w e)))
 same-or-less n w false e = or-false (leb n w)
 
-wide-as : (p : ℕ) (κ : Kind) (n : ℕ) → wideAs (cellOf (some (record { place = p; kind = κ }))) n ≡ wide κ n
+pub wide-as : (p : ℕ) (κ : Kind) (n : ℕ) → wideAs (cellOf (some (record { place = p; kind = κ }))) n ≡ wide κ n
 wide-as p (fixed bs) n = or-false (eqb n (length bs))
 wide-as p (digits w) n = or-false (eqb n w)
 wide-as p (maybe w) n = or-swap (eqb n w) (eqb n 0)
@@ -68,7 +68,7 @@ from-there (b ∷ l) (suc i) a e = from-there l i a e
 abbrev pub fieldsOf : List ℕ → List (List ℕ)
 fieldsOf x = behindLetter (split tab x)
 
-all-fields : (x : List ℕ) → length (split tab x) ≡ suc (length (fieldsOf x))
+pub all-fields : (x : List ℕ) → length (split tab x) ≡ suc (length (fieldsOf x))
 all-fields x = by (split tab x) (split-some tab x)
   where
     by : (ts : List (List ℕ)) → Some ts → length ts ≡ suc (length (behindLetter ts))

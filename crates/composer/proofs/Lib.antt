@@ -1,6 +1,8 @@
 pub mod WalkLaws
 pub mod ByteLaws
 pub mod FormLaws
+pub mod WideLaws
+pub mod RestLaws
 pub mod LayLaws
 pub mod OwnLaws
 pub mod EndLaws
@@ -14,3 +16,4 @@ pub mod WritingLaws
 pub mod FileLaws
 pub mod CallLaws
 pub mod Answers
+pub mod QuickLaws

@@ -8,7 +8,7 @@ use mathlib.Core.Logic.{_≢_}
 use mathlib.Core.Bool.{true, false}
 use mathlib.Core.List.{List, [], _∷_, _++_, append-assoc, append-nil}
 use lib.ListN.{length, take, drop, length-append, length-drop, take-append-drop, drop-of-length-le}
-use lib.Seq.{drop-drop, length-take-le, take-all}
+use lib.Seq.{drop-drop, length-take-le, take-all, take-nil}
 use lib.Dec.{leb}
 use borrow.Rule.Slice.PartMut.{putMid, post-is}
 use Rattle.form.specs.Kind.{same}
@@ -30,9 +30,13 @@ use Rattle.pen.proofs.OverLaws.{over-next, over-length, over-nothing}
 use Rattle.composer.specs.Telling.{lineFormed, behindLetter, FormedLine, linesParts, PaymentLine}
 use Rattle.composer.specs.Writing.{paymentsOf, Accepted}
 use Rattle.pen.proofs.CellLaws.{fields-first}
+use Rattle.composer.proofs.WalkLaws.{formed-count}
+use Rattle.composer.proofs.FormLaws.{all-fields}
+use Rattle.composer.proofs.WideLaws.{texts-inside, texts-behind}
+use Rattle.composer.proofs.RestLaws.{reach-behind, restFrom}
 use Rattle.composer.proofs.ToldLaws.{few, min-is}
 use Rattle.composer.proofs.FirstLineLaws.{made-lines}
-use Rattle.composer.proofs.StepLaws.{lineTo, last-piece, line-within, here, step}
+use Rattle.composer.proofs.StepLaws.{lineTo, line-inside, last-piece, line-within, here, step}
 
 -- ---- a part of the output that was lent and is back
 
@@ -198,6 +202,54 @@ module _ {l old : List ℕ} {ps : List Payment} {out : List ℕ} {row p at : ℕ
           long = ap length holds ∙ over-length 128 (done ++ record-of) old (omega (arith, length-append done record-of, fits));
           holds = holds ∙ ap (λ b. over 128 b old) (sym some);
         }
+
+drop-take : (m n : ℕ) (l : List ℕ) → drop m (take n l) ≡ take (n - m) (drop m l)
+drop-take zero n l = let e : n - 0 ≡ n = omega arith in rw e
+drop-take (suc m) zero l = let e : 0 - suc m ≡ 0 = omega arith in rw e
+drop-take (suc m) (suc n) [] = sym (take-nil (suc n - suc m))
+drop-take (suc m) (suc n) (x ∷ xs) = let e : suc n - suc m ≡ n - m = omega arith in rw e (drop-take m n xs)
+
+-- its texts stand behind the numbers: where they end the line does, and all else but the letter and nine numbers is theirs
+module _ {l old : List ℕ} {ps : List Payment} {out : List ℕ} {row p at : ℕ} (putting : Putting l old ps out row p at) (left : row < length ps) where
+  abbrev end : ℕ
+  end = p + reach lineEnd (drop p l)
+
+  coming : Next putting left end refl
+  coming = next putting left end refl
+
+  form : PaymentLine (lineTo l p end)
+  form = line-written (putting .letters) (putting .before) p (lineTo l p end) (coming .payment) (coming .composed) .form
+
+  abbrev fieldsThere : ℕ
+  fieldsThere = 12 + 2 * linesParts (lineTo l p end)
+
+  ahead : 84 ≤ reach lineEnd (drop p l)
+  ahead =
+      let h = texts-inside fieldsThere (lineTo l p end) form (omega arith) in
+      let i = line-inside l p end (putting .inside) refl in
+      let n : length (lineTo l p end) ≡ end - p = length-take-le (end - p) (drop p l) (omega (arith, length-drop p l)) in
+      omega arith
+
+  pub texts-end : p + 84 + reach lineEnd (drop (p + 84) l) ≡ p + reach lineEnd (drop p l)
+  texts-end = omega (arith, reach-behind lineEnd l p 84 ahead)
+
+  pub texts-within : p + 84 + reach lineEnd (drop (p + 84) l) < length l
+  texts-within = omega (arith, texts-end, line-within l p end (putting .inside) refl (coming .more))
+
+  -- its fields
+  pub texts-counted : (e n : ℕ) → e ≡ end → n ≡ length (split tab (restFrom l (p + 84))) → 10 + n ≡ length (split tab (lineTo l p e))
+  texts-counted e n i c =
+      let m : end - p - 84 ≡ reach lineEnd (drop (p + 84) l) = omega (arith, texts-end) in
+      let rest : drop 84 (lineTo l p end) ≡ restFrom l (p + 84)
+      = drop-take 84 (end - p) (drop p l) ∙ ap₂ (λ (k : ℕ) (x : List ℕ). take k x) m (drop-drop 84 p l) in
+      let all = texts-behind fieldsThere (lineTo l p end) form (omega arith) in
+      ap (λ k. 10 + k) (c ∙ ap (λ (x : List ℕ). length (split tab x)) (sym rest)) ∙ sym all ∙ ap (λ k. length (split tab (lineTo l p k))) (sym i)
+
+  pub texts-few : (e n : ℕ) → e ≡ end → n ≡ length (split tab (restFrom l (p + 84))) → 10 + n ≤ 43
+  texts-few e n i c =
+      let x = lineTo l p end in
+      let k = few (length (split tab x)) in
+      omega (arith, texts-counted end n refl c, all-fields x, formed-count false fieldsThere x form)
 
 -- ---- all of them
 

@@ -1,9 +1,10 @@
 -- What the code answers of a line and of lines, given what composing makes of them.
-use Prim.Native.Nat.{ℕ, _+_, _*_, _≤_, _<_}
+use Prim.Native.Nat.{ℕ, _+_, _-_, _*_, _≤_, _<_}
 use mathlib.Core.Path.{_≡_}
+use mathlib.Core.Logic.{_≢_}
 use mathlib.Core.Bool.{Bool, true, false, _&&_, _||_, not}
 use mathlib.Core.List.{List, [], _∷_}
-use lib.ListN.{length, take}
+use lib.ListN.{length, take, drop}
 use lib.Dec.{leb, eqb}
 use Rattle.form.specs.Kind.{same}
 use Rattle.rules.specs.Values.{Header, Payment, Document, Totals, totals}
@@ -17,11 +18,13 @@ use Rattle.payment.specs.declared.PaymentRead.the-variants as payment
 use Rattle.payment.specs.Adding.{withPayment}
 use Rattle.sums.specs.declared.Sums.{Sums}
 use Rattle.checker.specs.Checking.{sumsOf, together}
-use Rattle.listing.specs.Lines.{tab, split, endsInBlank}
+use Rattle.listing.specs.Lines.{tab, lineEnd, split, endsInBlank}
 use Rattle.listing.specs.Records.{partsOf, formed, inLine}
-use Rattle.listing.specs.Composing.{Composed, made, denied}
+use Rattle.listing.specs.Composing.{Composed, made, denied, composePayment}
 use Rattle.pen.specs.declared.Cell.{Cell}
-use Rattle.pen.specs.Walking.{letterOf, cellsOf}
+use Rattle.pen.specs.Walking.{reach, letterOf, cellsOf}
+use Rattle.composer.specs.declared.LineRead.{LineRead}
+use Rattle.composer.specs.declared.LineRead.the-variants as one
 use Rattle.composer.specs.declared.LinesRead.{LinesRead}
 use Rattle.composer.specs.declared.LinesRead.the-variants as lines
 
@@ -71,6 +74,18 @@ headTold q c = tells (λ h. kind.Is (kindOf (h .fileKind)) q) kind.Refused c
 -- of a payment the sums with it, and its bytes in the file
 abbrev pub paymentTold : Sums → Composed Payment → PaymentRead
 paymentTold sums c = tells (λ p. payment.Is (withPayment sums p) (length (writePayment p))) payment.Refused c
+
+-- of the line that begins at p, whose end is at e
+pub record LineEnded (l : List ℕ) (p : ℕ) (letters : List ℕ) (t : Totals) (sums : Sums) (a : PaymentRead) (e : ℕ) : Type 0 where
+  pub ends : e ≡ p + reach lineEnd (drop p l)
+  pub more : e ≢ length l
+  pub told : a ≡ paymentTold sums (composePayment letters t p (split tab (take (e - p) (drop p l))))
+
+-- of the line that begins at p, after payments that come to t
+abbrev pub LineTold : List ℕ → ℕ → List ℕ → Totals → Sums → LineRead → Type 0
+LineTold l p letters t sums one.NotEnded = p + reach lineEnd (drop p l) ≡ length l
+LineTold l p letters t sums (one.Refused r) = (e : ℕ) × LineEnded l p letters t sums (payment.Refused r) e
+LineTold l p letters t sums (one.Is new bytes next) = (e : ℕ) × LineEnded l p letters t sums (payment.Is new bytes) e × (next ≡ e + 1)
 
 -- of payments after others that come to t: what all come to, and these payments' bytes added to so many
 abbrev pub paymentsTold : Totals → ℕ → Composed (List Payment) → LinesRead

@@ -3,20 +3,23 @@ use Prim.Native.Nat.{ℕ, _+_, _^_, _≤_, _<_}
 use mathlib.Core.Path.{_≡_}
 use mathlib.Core.Bool.{Bool}
 use mathlib.Core.List.{List, []}
-use lib.ListN.{length, take}
+use lib.ListN.{length, take, drop}
 use Rattle.rules.specs.Values.{Payment, Document, Totals, totals}
 use Rattle.rules.specs.Writing.{write, writePayments}
-use Rattle.listing.specs.Lines.{lineEnd}
+use Rattle.listing.specs.Lines.{tab, lineEnd, split}
 use Rattle.listing.specs.Records.{cells, lay}
 use Rattle.listing.specs.Composing.{Composed, made, denied, compose}
 use Rattle.pen.specs.Walking.{reach, recordOf, cellsOf}
-use Rattle.composer.specs.Telling.{FormedLine}
+use Rattle.composer.specs.Telling.{FormedLine, behindLetter}
 
--- the line tells the n fields of such a record, which has what is its own
-pub record Layable (head : Bool) (k n : ℕ) (x out : List ℕ) : Type 0 where
+-- the line tells the n fields of such a record, which has what is its own and the first i fields; field i stands at q of the line
+pub record Layable (head : Bool) (k n : ℕ) (x out : List ℕ) (i q : ℕ) : Type 0 where
   pub line : FormedLine head n x
   pub cells : cells 0 (recordOf head k) ≡ take n (cellsOf head)
-  pub own : out ≡ lay (recordOf head k) []
+  pub left : i < n
+  pub inside : q ≤ length x
+  pub here : split tab (drop q x) ≡ drop i (behindLetter (split tab x))
+  pub laid : out ≡ lay (recordOf head k) (take i (behindLetter (split tab x)))
 
 -- each figure has room in E
 pub record Writable (t : Totals) : Type 0 where

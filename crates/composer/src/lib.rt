@@ -14,7 +14,7 @@ ghost use Rattle.listing.specs.Records.{recordC, partsOf, lay};
 ghost use Rattle.listing.specs.Composing.{wholePayment, composeHeader, composePayment, composePayments, compose};
 ghost use Rattle.listing.specs.Endings.{composed, within, bytesOf};
 ghost use Rattle.pen.specs.Writing.{over, writtenOf};
-ghost use Rattle.composer.specs.Telling.{FormedLine, PaymentLine, behindLetter, linesParts, placeIn, headTold, paymentTold, paymentsTold, listingTold, linesWhy};
+ghost use Rattle.composer.specs.Telling.{FormedLine, PaymentLine, behindLetter, linesParts, placeIn, headTold, paymentTold, LineTold, paymentsTold, listingTold, linesWhy};
 ghost use Rattle.composer.specs.Writing.{paymentsOf, Accepted, Ready};
 use fields::FileKind;
 use fields::KindRead;
@@ -24,6 +24,7 @@ use fields::numbers;
 use header::HeaderRead;
 use payment::PaymentRead;
 use pen::Written;
+use quick::Quick;
 use sums::Sums;
 
 mod line;
@@ -34,6 +35,13 @@ mod record;
 const LENGTH_OF_E: usize = 128;
 
 const A_AND_E: usize = 256;
+
+// What is told of a line: it has no end; it is refused; the sums with its payment, the payment's bytes in the file, and the place behind.
+enum LineRead {
+    NotEnded,
+    Refused(Refusal),
+    Is(Sums, usize, usize),
+}
 
 // What the payments of a listing come to, and how many bytes they take in the file.
 enum LinesRead {
@@ -129,7 +137,29 @@ fn payment_line(
     PaymentRead::Is(new_sums, bytes)
 }
 
-// The payments' lines from `start` on, in a file of this kind. Each record is laid out in `room`.
+// The line that begins at p, after so many payments that come to these sums. A line that is in order is read in one walk; any other is told of
+// with the help of its record, which is laid out in `room`.
+fn line_at(l: &[u8], p: usize, kind: FileKind, count: u64, sums: Sums, room: &mut [u8]) -> LineRead
+    requires { ⌜ (p ≤ length (now l)) × (length (now room) ≡ 768) ⌝ }
+    ensures { λ r. ⌜ LineTold (now (l .entry)) p (lettersOf kind) (totalsOf count sums) sums r ⌝ }
+{
+    let quick = quick::read_line(l, p, kind, count, sums);
+    if let Quick::Is(new_sums, bytes, next) = quick {
+        return LineRead::Is(new_sums, bytes, next);
+    }
+    let e = pen::reach(l, p, pen::LINE_END);
+    if e == l.len() {
+        return LineRead::NotEnded;
+    }
+    let c = payment_line(&l[p..e], p, kind, count, sums, room);
+    let PaymentRead::Is(new_sums, bytes) = c else {
+        return LineRead::Refused(c.why());
+    };
+    let next = e + 1;
+    LineRead::Is(new_sums, bytes, next)
+}
+
+// The payments' lines from `start` on, in a file of this kind. Records are laid out in `room`.
 fn read_payments(l: &[u8], start: usize, kind: FileKind, room: &mut [u8]) -> LinesRead
     requires { ⌜ (start ≤ length (now l)) × (length (now room) ≡ 768) ⌝ }
     ensures { λ r. ⌜ r ≡ paymentsTold noTotals 0 (composePayments (lettersOf kind) noTotals start (split lineEnd (drop start (now (l .entry))))) ⌝ }
@@ -139,18 +169,17 @@ fn read_payments(l: &[u8], start: usize, kind: FileKind, room: &mut [u8]) -> Lin
     let mut sums = sums::NO_SUMS;
     let mut size = 0;
     loop {
-        let e = pen::reach(l, p, pen::LINE_END);
-        if e == l.len() {
-            break;
+        let line = line_at(l, p, kind, count, sums, room);
+        match line {
+            LineRead::NotEnded => break,
+            LineRead::Refused(why) => return LinesRead::Refused(why),
+            LineRead::Is(new_sums, bytes, next) => {
+                sums = new_sums;
+                count += 1;
+                size += bytes;
+                p = next;
+            }
         }
-        let c = payment_line(&l[p..e], p, kind, count, sums, room);
-        let PaymentRead::Is(new_sums, bytes) = c else {
-            return LinesRead::Refused(c.why());
-        };
-        sums = new_sums;
-        count += 1;
-        size += bytes;
-        p = e + 1;
     }
     if p < l.len() {
         return LinesRead::Refused(fields::refuse(numbers::NO_LINE, p));
@@ -180,13 +209,13 @@ fn read_listing(l: &[u8]) -> LinesRead
     read_payments(l, e + 1, kind, &mut room)
 }
 
-// Writes a payment from its line x, into the output from `at` on, and tells the place behind it.
-fn write_payment(x: &[u8], out: &mut [u8], at: usize) -> usize
-    requires { ⌜ PaymentLine (now x) × (at + 128 * section (linesParts (now x)) ≤ length (now out)) ⌝ }
+// Writes a payment from its line x of so many fields, into the output from `at` on, and tells the place behind it.
+fn write_payment(x: &[u8], fields: usize, out: &mut [u8], at: usize) -> usize
+    requires { ⌜ PaymentLine (now x) × ((fields ≡ length (split tab (now x))) × (at + 128 * section (linesParts (now x)) ≤ length (now out))) ⌝ }
     ensures place { λ r. ⌜ r ≡ at + 128 * section (linesParts (now (x .entry))) ⌝ }
     ensures out { λ _. ⌜ now (out .exit) ≡ over at (lay (recordC (linesParts (now (x .entry)))) (behindLetter (split tab (now (x .entry))))) (now (out .entry)) ⌝ }
 {
-    let k = parts_of(line::count_fields(x));
+    let k = parts_of(fields);
     let end = at + pen::bytes_of(k);
     record::lay_payment(k, x, &mut out[at..end]);
     end
@@ -202,8 +231,9 @@ fn write_payments(l: &[u8], start: usize, count: u64, out: &mut [u8]) -> usize
     let mut at = pen::FIRST_PAYMENT;
     let mut row = 0;
     while row < count {
-        let e = pen::reach(l, p, pen::LINE_END);
-        at = write_payment(&l[p..e], out, at);
+        let texts = line::rest_of_line(l, p + line::TEXTS);
+        let e = texts.end;
+        at = write_payment(&l[p..e], line::AHEAD_OF_TEXTS + texts.fields, out, at);
         p = e + 1;
         row += 1;
     }

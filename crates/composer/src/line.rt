@@ -1,27 +1,75 @@
 // A line of a listing, without its end: how many fields it has, its form, and where a field of its record stands in it.
 ghost use mathlib.Core.Path.{_≡_};
-ghost use Prim.Native.Nat.{_≤_, _<_};
+ghost use Prim.Native.Nat.{_+_, _≤_, _<_};
 ghost use mathlib.Core.List.{[], _∷_, _++_};
-ghost use lib.ListN.{length, take};
+ghost use lib.ListN.{length, take, drop};
 ghost use Rattle.form.specs.Kind.{same};
-ghost use Rattle.listing.specs.Lines.{tab, split, endsInBlank};
-ghost use Rattle.pen.specs.Walking.{letterOf, cellsOf};
+ghost use Rattle.listing.specs.Lines.{tab, lineEnd, split, endsInBlank};
+ghost use Rattle.pen.specs.Walking.{reach, letterOf, cellsOf};
 ghost use Rattle.composer.specs.Telling.{formedAs, lineFormed, FormedLine, placeIn};
 use pen::Cell;
+
+// In a payment's line of its form, the letter and nine numbers of fixed width stand ahead of the first text, which begins at this place.
+pub(crate) const AHEAD_OF_TEXTS: usize = 10;
+
+pub(crate) const TEXTS: usize = 84;
+
+// Where the field at q ends: at the next tab, or where the line does. Fields are short, so it is looked for byte by byte.
+fn field_end(x: &[u8], q: usize) -> usize
+    ensures { λ r. ⌜ r ≡ q + reach tab (drop q (now (x .entry))) ⌝ }
+{
+    let mut i = q;
+    while i < x.len() {
+        if x[i] == pen::TAB {
+            return i;
+        }
+        i += 1;
+    }
+    i
+}
 
 // How many fields there are, the letter among them.
 pub(crate) fn count_fields(x: &[u8]) -> usize
     ensures { λ r. ⌜ r ≡ length (split tab (now (x .entry))) ⌝ }
 {
-    let mut tabs = 0;
-    let mut i = 0;
-    while i < x.len() {
-        if x[i] == pen::TAB {
-            tabs += 1;
+    let mut fields = 1;
+    let mut e = field_end(x, 0);
+    while e < x.len() {
+        fields += 1;
+        e = field_end(x, e + 1);
+    }
+    fields
+}
+
+// Where a line of a listing ends, and how many fields stand before.
+pub(crate) struct Rest {
+    pub end: usize,
+    pub fields: usize,
+}
+
+// The line from p on, in a listing where its end is to come: so no byte is tested for more than what may end a field.
+pub(crate) fn rest_of_line(l: &[u8], p: usize) -> Rest
+    requires { ⌜ p + reach lineEnd (drop p (now l)) < length (now l) ⌝ }
+    ensures end { λ r. ⌜ r .end ≡ p + reach lineEnd (drop p (now (l .entry))) ⌝ }
+    ensures fields { λ r. ⌜ r .fields ≡ length (split tab (take (reach lineEnd (drop p (now (l .entry)))) (drop p (now (l .entry))))) ⌝ }
+{
+    let mut fields = 1;
+    let mut i = p;
+    loop {
+        while l[i] > pen::LINE_END {
+            i += 1;
+        }
+        if l[i] == pen::LINE_END {
+            return Rest {
+                end: i,
+                fields: fields,
+            };
+        }
+        if l[i] == pen::TAB {
+            fields += 1;
         }
         i += 1;
     }
-    tabs + 1
 }
 
 // Whether t ends in a blank.
@@ -68,7 +116,7 @@ pub(crate) fn formed(head: bool, n: usize, x: &[u8]) -> bool
     let mut q = 2;
     let mut i = 0;
     loop {
-        let e = pen::reach(x, q, pen::TAB);
+        let e = field_end(x, q);
         let c = pen::cell_at(head, i);
         if !field_formed(c, &x[q..e]) {
             return false;
@@ -97,6 +145,6 @@ pub(crate) fn place_of(head: bool, n: usize, x: &[u8], p: usize) -> usize
         if i == n {
             return 0;
         }
-        q = pen::reach(x, q, pen::TAB) + 1;
+        q = field_end(x, q) + 1;
     }
 }

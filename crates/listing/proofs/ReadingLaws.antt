@@ -32,7 +32,7 @@ look-spelled κ f p v e = by (leb (p + width κ) (length f)) e
     by true e = judge-has κ (take (width κ) (drop p f)) v whole e .1
     by false e = absurd (has-or-lacks (sym e))
 
-field-spelled : (κ : Kind) (rs : Value κ → List Rule) (f : List ℕ) (p : ℕ) (v : Value κ) → fieldAt κ rs f p ≡ has v
+pub field-spelled : (κ : Kind) (rs : Value κ → List Rule) (f : List ℕ) (p : ℕ) (v : Value κ) → fieldAt κ rs f p ≡ has v
     → spell κ v ≡ take (width κ) (drop p f)
 field-spelled κ rs f p v e = by (lookAt κ f p) refl e
   where

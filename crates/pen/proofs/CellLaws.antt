@@ -2,7 +2,7 @@
 -- Assumes nothing.
 use Prim.Native.Nat.{ℕ, zero, suc, _+_, _-_, _*_, _/_, _%_, _≤_, _<_}
 use native.Mathlib.Omega.{arith}
-use mathlib.Core.Path.{_≡_, refl, sym, ap, subst, _∙_}
+use mathlib.Core.Path.{_≡_, refl, sym, ap, ap₂, subst, _∙_}
 use mathlib.Core.Bool.{true, false}
 use mathlib.Core.List.{List, [], _∷_}
 use mathlib.Core.Option.{none}
@@ -38,6 +38,11 @@ pub fields-of-A : (i : ℕ) → i < 8 → fieldOfA i ≡ cellAt true i
 unfolding below
 fields-of-A i h = agree fieldOfA (cellAt true) 8 i refl h
 
+-- by entries of the tables
+pub entries-of-A : (i p w : ℕ) → i < 8 → p ≡ fieldOfA i .place → w ≡ fieldOfA i .width
+    → record { place = p; width = w; text = eqb i 3; optional = eqb i 7 } ≡ cellAt true i
+entries-of-A i p w h e f = ap₂ (λ (x y : ℕ). record { place = x; width = y; text = eqb i 3; optional = eqb i 7 }) e f ∙ fields-of-A i h
+
 pub none-behind-A : (i : ℕ) → 8 ≤ i → record { place = 0; width = 0; text = false; optional = false } ≡ cellAt true i
 none-behind-A i h = sym (ap cellOf (beyond (cells 0 (recordOf true 15)) i h))
 
@@ -56,6 +61,10 @@ fieldOfC i =
 pub fields-of-C : (i : ℕ) → i < 12 → fieldOfC i ≡ cellAt false i
 unfolding below numeral toSectionEnd toNextPart
 fields-of-C i h = agree fieldOfC (cellAt false) 12 i refl h
+
+pub entries-of-C : (i p w : ℕ) → i < 12 → p ≡ fieldOfC i .place → w ≡ fieldOfC i .width
+    → record { place = p; width = w; text = leb 9 i; optional = false } ≡ cellAt false i
+entries-of-C i p w h e f = ap₂ (λ (x y : ℕ). record { place = x; width = y; text = leb 9 i; optional = false }) e f ∙ fields-of-C i h
 
 pub none-behind-C : (i : ℕ) → 42 ≤ i → record { place = 0; width = 0; text = false; optional = false } ≡ cellAt false i
 unfolding numeral toSectionEnd toNextPart

@@ -1,13 +1,13 @@
 -- Bytes written over others: where there is room for them, what is there then, and how one writing goes on where another ended.
 -- Assumes nothing.
-use Prim.Native.Nat.{ℕ, suc, _+_, _≤_}
+use Prim.Native.Nat.{ℕ, suc, _+_, _-_, _≤_}
 use native.Mathlib.Nat.{zero-add, add-assoc}
 use native.Mathlib.Omega.{arith}
-use mathlib.Core.Path.{_≡_, sym, ap, _∙_}
+use mathlib.Core.Path.{_≡_, sym, ap, ap₂, _∙_}
 use mathlib.Core.Bool.{Bool, true, false, not}
 use mathlib.Core.List.{List, [], _∷_, _++_, append-assoc, append-nil}
 use lib.ListN.{length, take, drop, getD, set, length-append, take-append-drop, drop-of-length-le}
-use lib.Seq.{take-suc, append-snoc, set-at, take-append-add, drop-append-add, drop-at, length-take-le, sets, length-sets, sets-eq}
+use lib.Seq.{take-suc, append-snoc, set-at, take-append-add, drop-append-add, drop-drop, take-at, drop-at, length-take-le, sets, length-sets, sets-eq}
 use lib.Dec.{leb}
 use borrow.Author.Tests.{leb-true, le-leb, not-true, not-false}
 use Rattle.pen.specs.Writing.{over, overIfRoom}
@@ -67,6 +67,21 @@ over-next p a b old h =
     ∙ ap (λ (l : List ℕ). sets l (p + length a) b) (sym (by-sets p a old (omega arith)))
     ∙ sets-append old p a b
     ∙ by-sets p (a ++ b) old (omega (arith, length-append a b))
+
+-- writing over what was written
+pub over-again : (p : ℕ) (a b old : List ℕ) → p + length a ≤ length old → length a ≤ length b → over p b (over p a old) ≡ over p b old
+over-again p a b old h g =
+    let m = length b - length a in
+    let first = length-take-le p old (omega arith) in
+    let e : p + length b ≡ length (take p old) + (length a + m) = omega arith in
+    let f : p + length a + m ≡ p + length b = omega arith in
+    let behind : drop (p + length b) (over p a old) ≡ drop (p + length b) old
+    = ap (λ (n : ℕ). drop n (over p a old)) e
+    ∙ drop-append-add (take p old) (a ++ drop (p + length a) old) (length a + m)
+    ∙ drop-append-add a (drop (p + length a) old) m
+    ∙ drop-drop m (p + length a) old
+    ∙ ap (λ (n : ℕ). drop n old) f in
+    ap₂ (λ (x y : List ℕ). x ++ (b ++ y)) (take-at (take p old) (a ++ drop (p + length a) old) p first) behind
 
 -- a byte right behind what was written, and one right before it
 pub over-more : (p b : ℕ) (bs old : List ℕ) → p + suc (length bs) ≤ length old

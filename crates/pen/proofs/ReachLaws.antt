@@ -2,13 +2,13 @@
 -- Assumes nothing.
 use Prim.Native.Nat.{ℕ, suc, _+_, _≤_, _<_}
 use native.Mathlib.Omega.{arith}
-use mathlib.Core.Path.{_≡_, refl, sym, _∙_}
-use mathlib.Core.Bool.{Bool, true, false, cond}
+use mathlib.Core.Path.{_≡_, refl, sym, subst, _∙_}
+use mathlib.Core.Bool.{Bool, true, false, cond, _||_}
 use mathlib.Core.List.{List, [], _∷_}
 use lib.ListN.{length, take, drop, getD, length-drop, drop-of-length-le}
 use lib.Seq.{drop-cons, drop-drop, take-all}
-use lib.Dec.{eqb}
-use borrow.Author.Tests.{eq-eqb, ne-eqb}
+use lib.Dec.{T, eqb}
+use borrow.Author.Tests.{eqb-false, eq-eqb, ne-eqb}
 use Rattle.listing.specs.Lines.{onto, split}
 use Rattle.pen.specs.Walking.{reach}
 
@@ -35,6 +35,22 @@ module _ (z : ℕ) (l : List ℕ) (i : ℕ) where
   pub reach-end : length l ≤ i → reach z (drop i l) ≡ 0
   unfolding reach
   reach-end h = rw (drop-of-length-le l h)
+
+-- ---- past bytes that were looked at
+
+-- if z was not found among the j bytes from p on, it is as far behind them
+abbrev pub PastUnless : Bool → ℕ → List ℕ → ℕ → ℕ → Type 0
+PastUnless found z l p j = found ≡ false → reach z (drop p l) ≡ j + reach z (drop (p + j) l)
+
+pub past-none : (z : ℕ) (l : List ℕ) (p : ℕ) → PastUnless false z l p 0
+past-none z l p e = let h : p + 0 ≡ p = omega arith in rw h (omega arith)
+
+pub past-more : (found : Bool) (z : ℕ) (l : List ℕ) (p j : ℕ) → p + j < length l → PastUnless found z l p j
+    → PastUnless (found || eqb (getD l (p + j) 0) z) z l p (j + 1)
+past-more true z l p j h past e = absurd (subst T e tt)
+past-more false z l p j h past e =
+    let k : p + (j + 1) ≡ suc (p + j) = omega arith in
+    rw k (omega (arith, past refl, reach-on z l (p + j) h (eqb-false (getD l (p + j) 0) z e)))
 
 -- ---- the first piece, and the pieces behind it
 

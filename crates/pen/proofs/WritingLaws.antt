@@ -10,7 +10,7 @@ use lib.Seq.{take-suc, take-all, getD-take, getD-append-add, length-take-le}
 use Rattle.form.specs.Kind.{blanks}
 use Rattle.listing.specs.Records.{pad}
 use Rattle.pen.specs.Writing.{over}
-use Rattle.pen.proofs.OverLaws.{over-nothing, over-more}
+use Rattle.pen.proofs.OverLaws.{over-nothing, over-again, over-more}
 
 -- ---- byte by byte
 
@@ -39,6 +39,18 @@ writing-more {old} {bytes} {out} {p} {i} q b w h e f =
 
 pub writing-end : {old bytes out : List ℕ} {p i : ℕ} → Writing old p bytes out i → length bytes ≤ i → out ≡ over p bytes old
 writing-end {bytes = bytes} {i = i} w h = w .holds ∙ rw (take-all i bytes h)
+
+-- what was written so far may be taken for what was there
+pub writing-on : {old bytes out : List ℕ} {p i : ℕ} → Writing old p bytes out i → Writing out p bytes out i
+writing-on {old} {bytes} {out} {p} {i} w =
+    let l = length-take-le i bytes (w .inside) in
+    let again = over-again p (take i bytes) (take i bytes) old (omega arith) (omega arith) in
+    record { room = omega arith; inside = w .inside; long = refl; holds = w .holds ∙ sym (rw (w .holds) again) }
+
+pub writing-both : {old bytes out new : List ℕ} {p i j : ℕ} → Writing old p bytes out i → Writing out p bytes new j → length bytes ≤ j → new ≡ over p bytes old
+writing-both {old} {bytes} {p = p} {i = i} w v h =
+    let l = length-take-le i bytes (w .inside) in
+    writing-end v h ∙ rw (w .holds) (over-again p (take i bytes) bytes old (omega arith) (omega arith))
 
 -- ---- a field made w wide
 

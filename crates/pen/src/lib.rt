@@ -66,11 +66,31 @@ const NO_CELL: Cell = Cell {
     optional: false,
 };
 
-// The place of the first z from p on, or the end where there is none.
+// Whether z is among the 16 bytes from p on. All of them are compared, so that this is one step of a processor's vector unit.
+fn among_sixteen(s: &[u8], p: usize, z: u8) -> bool
+    requires { ⌜ p + 16 ≤ length (now s) ⌝ }
+    ensures { λ r. ⌜ (r ≡ false → reach z (drop p (now (s .entry))) ≡ 16 + reach z (drop (p + 16) (now (s .entry)))) ⌝ }
+{
+    let mut found = false;
+    let mut j = 0;
+    while j < 16 {
+        found = found | (s[p + j] == z);
+        j += 1;
+    }
+    found
+}
+
+// The place of the first z from p on, or the end where there is none: sixteen bytes at a time, then byte by byte.
 pub fn reach(s: &[u8], p: usize, z: u8) -> usize
     ensures { λ r. ⌜ r ≡ p + reach z (drop p (now (s .entry))) ⌝ }
 {
     let mut i = p;
+    while fields::whole(s.len(), i, 16) {
+        if among_sixteen(s, i, z) {
+            break;
+        }
+        i += 16;
+    }
     while i < s.len() {
         if s[i] == z {
             return i;
@@ -90,6 +110,13 @@ pub fn letter(head: bool) -> u8
     fixed::LETTER_C[0]
 }
 
+// An entry of a table.
+fn wide(b: u8) -> usize
+    ensures { λ r. ⌜ r ≡ b ⌝ }
+{
+    b as usize
+}
+
 // Field i of the line of A, from 0 behind the letter.
 fn header_cell(i: usize) -> Cell
     ensures { λ r. ⌜ r ≡ cellAt true i ⌝ }
@@ -98,8 +125,8 @@ fn header_cell(i: usize) -> Cell
         return NO_CELL;
     }
     Cell {
-        place: places::OF_A[i],
-        width: places::WIDTHS_OF_A[i],
+        place: wide(places::OF_A[i]),
+        width: wide(places::WIDTHS_OF_A[i]),
         text: i == 3,
         optional: i == 7,
     }
@@ -122,8 +149,8 @@ fn payment_cell(i: usize) -> Cell
 {
     if i < 12 {
         return Cell {
-            place: places::OF_C[i],
-            width: places::WIDTHS_OF_C[i],
+            place: wide(places::OF_C[i]),
+            width: wide(places::WIDTHS_OF_C[i]),
             text: i >= 9,
             optional: false,
         };
@@ -178,13 +205,18 @@ pub fn put(out: &mut [u8], p: usize, t: &[u8], w: usize)
     if !fields::whole(out.len(), p, w) {
         return;
     }
+    let mut n = t.len();
+    if n > w {
+        n = w;
+    }
     let mut i = 0;
-    while i < w {
-        let mut b = b' ';
-        if i < t.len() {
-            b = t[i];
-        }
+    while i < n {
+        let b = t[i];
         out[p + i] = b;
+        i += 1;
+    }
+    while i < w {
+        out[p + i] = b' ';
         i += 1;
     }
 }

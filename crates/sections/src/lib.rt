@@ -40,7 +40,7 @@ impl ReceiverRead {
 }
 
 // The first of eight digits is neither 0 nor 9.
-fn bank_code_ok(v: u64) -> bool
+pub fn bank_code_ok(v: u64) -> bool
     ensures { λ r. ⌜ r ≡ bankCodeOk v ⌝ }
 {
     let first = v / 10_000_000;
@@ -48,14 +48,14 @@ fn bank_code_ok(v: u64) -> bool
 }
 
 // The first and the last of thirteen digits are 0.
-fn customer_ok(v: u64) -> bool
+pub fn customer_ok(v: u64) -> bool
     ensures { λ r. ⌜ r ≡ customerOk v ⌝ }
 {
     (v / 1_000_000_000_000 == 0) & (v % 10 == 0)
 }
 
 // The key is one of this kind of file.
-fn key_ok(kind: FileKind, v: u64) -> bool
+pub fn key_ok(kind: FileKind, v: u64) -> bool
     ensures { λ r. ⌜ r ≡ keyOk (lettersOf kind) v ⌝ }
 {
     if kind.credit {

@@ -17,27 +17,24 @@ use Rattle.composer.proofs.write_payment.Statement.{statement}
 use Rattle.composer.proofs.write_payment.Tie as tie
 
 -- the parts that the line tells
-parts : (c : tie.After-parts-of) → c .parts-of .result ≡ linesParts (c .before .before .before .before .args .x .now)
-parts c = c .parts-of .ensures ∙ ap partsOf (c .before .count-fields .ensures)
+parts : (c : tie.After-parts-of) → c .parts-of .result ≡ linesParts (c .before .before .before .args .x .now)
+parts c = c .parts-of .ensures ∙ ap partsOf (c .before .before .before .pre .1 .0)
 
 few-parts : (c : tie.After-parts-of) → c .parts-of .result ≤ 15
-few-parts c = let e = parts c in let h = few (length (split tab (c .before .before .before .before .args .x .now))) in omega arith
+few-parts c = let e = parts c in let h = few (length (split tab (c .before .before .before .args .x .now))) in omega arith
 
-formed : (c : tie.After-parts-of) → FormedLine false (12 + 2 * c .parts-of .result) (c .before .before .before .before .args .x .now)
-formed c = subst (λ k. FormedLine false (12 + 2 * k) (c .before .before .before .before .args .x .now)) (sym (parts c)) (c .before .before .before .before .pre .0)
+formed : (c : tie.After-parts-of) → FormedLine false (12 + 2 * c .parts-of .result) (c .before .before .before .args .x .now)
+formed c = subst (λ k. FormedLine false (12 + 2 * k) (c .before .before .before .args .x .now)) (sym (parts c)) (c .before .before .before .pre .0)
 
 -- the bytes that its record takes
-size : (c : tie.After-bytes-of) → c .bytes-of .result ≡ 128 * section (linesParts (c .before .before .before .before .before .args .x .now))
+size : (c : tie.After-bytes-of) → c .bytes-of .result ≡ 128 * section (linesParts (c .before .before .before .before .args .x .now))
 size c = bytes-told _ (parts (c .before)) (c .bytes-of .ensures)
 
 long : (c : tie.After-bytes-of) → c .bytes-of .result ≡ 128 * section (c .before .parts-of .result)
 long c = size c ∙ ap (λ k. 128 * section k) (sym (parts (c .before)))
 
-room : (c : tie.After-bytes-of) → c .before .before .before .before .before .args .at + c .bytes-of .result ≤ length (c .before .before .before .before .before .args .out .now)
-room c = let e = size c in let h = c .before .before .before .before .before .pre .1 in omega arith
-
-count-fields-requires : tie.Need-count-fields-requires
-count-fields-requires c κs = search needs
+room : (c : tie.After-bytes-of) → c .before .before .before .before .args .at + c .bytes-of .result ≤ length (c .before .before .before .before .args .out .now)
+room c = let e = size c in let h = c .before .before .before .before .pre .1 .1 in omega arith
 
 parts-of-requires : tie.Need-parts-of-requires
 parts-of-requires c κs = search needs
@@ -46,7 +43,7 @@ bytes-of-requires : tie.Need-bytes-of-requires
 bytes-of-requires c κs = search needs
 
 add-end : tie.Need-add-end
-add-end c = let h = room c in let g = c .before .before .before .before .before .good .1 .0 .0 in omega arith
+add-end c = let h = room c in let g = c .before .before .before .before .good .1 .1 .0 .0 in omega arith
 
 sub-lay-payment : tie.Need-sub-lay-payment
 sub-lay-payment c = search needs
@@ -65,7 +62,7 @@ same-length c = search needs
 
 returns : tie.Need-returns
 returns c =
-    let at-start = c .before .before .before .before .before .before .before .before .before in
+    let at-start = c .before .before .before .before .before .before .before .before in
     let at-parts = c .before .before .before .before .before in
     let at-bytes-of = c .before .before .before .before in
     let l = c .before .before in (
@@ -80,7 +77,6 @@ pub write-payment-spec : {M : Type 1} → statement M
 write-payment-spec =
     tie.close
     (tie.spec
-    count-fields-requires
     parts-of-requires
     bytes-of-requires
     add-end

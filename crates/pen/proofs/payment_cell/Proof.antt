@@ -2,24 +2,26 @@
 -- Assumes nothing.
 use native.Mathlib.Omega.{arith}
 use borrow.Author.Needs.{needs}
-use Rattle.pen.proofs.CellLaws.{fields-of-C, none-behind-C, mark-inside, mark-of-part, text-of-part}
+use Rattle.pen.proofs.CellLaws.{entries-of-C, none-behind-C, mark-inside, mark-of-part, text-of-part}
 use Rattle.pen.proofs.payment_cell.Statement.{statement}
 use Rattle.pen.proofs.payment_cell.Tie as tie
 
-mul-t5 : tie.Need-mul-t5
-mul-t5 c = search needs
+array-read-wide : tie.Need-array-read-wide
+array-read-wide c = search needs
 
-array-read-t8 : tie.Need-array-read-t8
-array-read-t8 c = search needs
+wide-requires : tie.Need-wide-requires
+wide-requires c κs = search needs
 
-mul-t10 : tie.Need-mul-t10
-mul-t10 c = search needs
+array-read-wide-2 : tie.Need-array-read-wide-2
+array-read-wide-2 c = search needs
 
-array-read-t13 : tie.Need-array-read-t13
-array-read-t13 c = search needs
+wide-requires-2 : tie.Need-wide-requires-2
+wide-requires-2 c κs = search needs
 
 returns : tie.Need-returns
-returns c = fields-of-C (c .before .args .i) (c .if1 .taken)
+returns c =
+    let e = c .before .before in
+    entries-of-C (e .before .args .i) _ _ (e .if1 .taken) (c .before .wide .ensures) (c .wide2 .ensures)
 
 returns-2 : tie.Need-returns-2
 returns-2 c = none-behind-C _ (c .if2 .taken)
@@ -47,10 +49,10 @@ pub payment-cell-spec : {M : Type 1} → statement M
 payment-cell-spec =
     tie.close
     (tie.spec
-    mul-t5
-    array-read-t8
-    mul-t10
-    array-read-t13
+    array-read-wide
+    wide-requires
+    array-read-wide-2
+    wide-requires-2
     returns
     returns-2
     mark-place-requires

@@ -42,20 +42,20 @@ loop-holds c =
     form-first (s .args .head) (s .args .n) (s .args .x .now) (s .pre) (sym (n .count-fields .ensures) ∙ c .before .before .if1 .left)
     (sym (c .before .begins .ensures) ∙ not-false _ (c .if2 .left))
 
-reach-requires : tie.Need-reach-requires Inv-loop μ-loop
-reach-requires c κs = search needs
+field-end-requires : tie.Need-field-end-requires Inv-loop μ-loop
+field-end-requires c κs = search needs
 
 cell-at-requires : tie.Need-cell-at-requires Inv-loop μ-loop
 cell-at-requires c κs = search needs
 
 sub-field-formed : tie.Need-sub-field-formed Inv-loop μ-loop
-sub-field-formed c = let r = c .before in stand-ends (r .before .loop .inv .stand) (r .reach .result) (r .reach .ensures) .0
+sub-field-formed c = let r = c .before in stand-ends (r .before .loop .inv .stand) (r .field-end .result) (r .field-end .ensures) .0
 
 part-field-formed-start : tie.Need-part-field-formed-start Inv-loop μ-loop
-part-field-formed-start c = let r = c .before in stand-ends (r .before .loop .inv .stand) (r .reach .result) (r .reach .ensures) .0
+part-field-formed-start c = let r = c .before in stand-ends (r .before .loop .inv .stand) (r .field-end .result) (r .field-end .ensures) .0
 
 part-field-formed-end : tie.Need-part-field-formed-end Inv-loop μ-loop
-part-field-formed-end c = let r = c .before in stand-ends (r .before .loop .inv .stand) (r .reach .result) (r .reach .ensures) .1
+part-field-formed-end c = let r = c .before in stand-ends (r .before .loop .inv .stand) (r .field-end .result) (r .field-end .ensures) .1
 
 field-formed-requires : tie.Need-field-formed-requires Inv-loop μ-loop
 field-formed-requires c κs = search needs
@@ -64,7 +64,7 @@ returns-3 : tie.Need-returns-3 Inv-loop μ-loop
 returns-3 c =
     let a = c .before .before .before in
     let r = a .before in
-    form-not (r .before .loop .inv) (r .reach .result) (r .reach .ensures) (a .cell-at .result) (a .cell-at .ensures)
+    form-not (r .before .loop .inv) (r .field-end .result) (r .field-end .ensures) (a .cell-at .result) (a .cell-at .ensures)
     (sym (not-true _ (c .if3 .taken)) ∙ c .before .field-formed .ensures)
 
 add-i : tie.Need-add-i Inv-loop μ-loop
@@ -74,13 +74,13 @@ returns-4 : tie.Need-returns-4 Inv-loop μ-loop
 returns-4 c =
     let a = c .before .before .before .before in
     let r = a .before in
-    form-last (r .before .loop .inv) (r .reach .result) (r .reach .ensures) (a .cell-at .result) (a .cell-at .ensures)
+    form-last (r .before .loop .inv) (r .field-end .result) (r .field-end .ensures) (a .cell-at .result) (a .cell-at .ensures)
     (sym (not-false _ (c .before .if3 .left)) ∙ c .before .before .field-formed .ensures) (c .if4 .taken)
 
 add-q : tie.Need-add-q Inv-loop μ-loop
 add-q c =
     let r = c .before .before .before .before .before in
-    omega (arith, stand-more (r .before .loop .inv .stand) (r .reach .result) (r .reach .ensures) (c .if4 .left))
+    omega (arith, stand-more (r .before .loop .inv .stand) (r .field-end .result) (r .field-end .ensures) (c .if4 .left))
 
 loop-less : tie.Need-loop-less Inv-loop μ-loop
 loop-less c = omega arith
@@ -89,7 +89,7 @@ loop-again : tie.Need-loop-again Inv-loop μ-loop
 loop-again c =
     let a = c .before .before .before .before in
     let r = a .before in
-    form-more (r .before .loop .inv) (r .reach .result) (r .reach .ensures) (a .cell-at .result) (a .cell-at .ensures)
+    form-more (r .before .loop .inv) (r .field-end .result) (r .field-end .ensures) (a .cell-at .result) (a .cell-at .ensures)
     (sym (not-false _ (c .before .if3 .left)) ∙ c .before .before .field-formed .ensures) (c .if4 .left)
 
 pub formed-spec : {M : Type 1} → statement M
@@ -104,7 +104,7 @@ formed-spec =
     begins-requires
     returns-2
     loop-holds
-    reach-requires
+    field-end-requires
     cell-at-requires
     sub-field-formed
     part-field-formed-start

@@ -30,13 +30,13 @@ returns-2 c =
     let r = c .before .before .before in
     place-none (r .before .loop .inv) (r .cell-at .result) (r .cell-at .ensures) (c .before .if1 .left) (c .if2 .taken)
 
-reach-requires : tie.Need-reach-requires Inv-loop μ-loop
-reach-requires c κs = search needs
+field-end-requires : tie.Need-field-end-requires Inv-loop μ-loop
+field-end-requires c κs = search needs
 
 add-q : tie.Need-add-q Inv-loop μ-loop
 add-q c =
     let l = c .before .before .before .before .before .loop in
-    omega (arith, stand-more (l .inv .stand) (c .reach .result) (c .reach .ensures) (c .before .if2 .left))
+    omega (arith, stand-more (l .inv .stand) (c .field-end .result) (c .field-end .ensures) (c .before .if2 .left))
 
 loop-less : tie.Need-loop-less Inv-loop μ-loop
 loop-less c = omega arith
@@ -45,7 +45,7 @@ loop-again : tie.Need-loop-again Inv-loop μ-loop
 loop-again c =
     let r = c .before .before .before .before in
     place-more (r .before .loop .inv) (r .cell-at .result) (r .cell-at .ensures) (c .before .before .if1 .left) (c .before .if2 .left)
-    (c .reach .result) (c .reach .ensures)
+    (c .field-end .result) (c .field-end .ensures)
 
 pub place-of-spec : {M : Type 1} → statement M
 place-of-spec =
@@ -58,7 +58,7 @@ place-of-spec =
     returns
     add-i
     returns-2
-    reach-requires
+    field-end-requires
     add-q
     loop-less
     loop-again)

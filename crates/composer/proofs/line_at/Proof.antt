@@ -1,0 +1,113 @@
+-- composer::line_at meets its contract: the quick reading tells of the line, or the reading by its record does.
+-- Assumes nothing.
+use native.Mathlib.Omega.{arith}
+use mathlib.Core.Path.{refl, sym, ap, _∙_, subst}
+use Rattle.payment.specs.declared.PaymentRead.the-variants as payment
+use Rattle.payment.specs.Adding.{paymentWhy}
+use Rattle.quick.specs.Told.{Told}
+use Rattle.composer.proofs.StepLaws.{line-inside, line-short}
+use Rattle.composer.proofs.QuickLaws.{quick-told}
+use borrow.Author.Needs.{needs}
+use Rattle.composer.proofs.line_at.Statement.{statement}
+use Rattle.composer.proofs.line_at.Tie as tie
+
+read-line-requires : tie.Need-read-line-requires
+read-line-requires c κs = search needs
+
+enum-known-quick : tie.Need-enum-known-quick
+enum-known-quick c = search needs
+
+returns : tie.Need-returns
+returns c = quick-told (subst (Told _ _ _ _ _) (c .before .quick .given .1) (c .before .before .before .read-line .ensures)) (c .before .before .before .before .before .before .pre .0)
+
+enum-told : tie.Need-enum-told
+enum-told c = search needs
+
+reach-requires : tie.Need-reach-requires
+reach-requires c κs = search needs
+
+returns-2 : tie.Need-returns-2
+returns-2 c = search needs
+
+sub-payment-line : tie.Need-sub-payment-line
+sub-payment-line c = search needs
+
+part-payment-line-start : tie.Need-part-payment-line-start
+part-payment-line-start c = search needs
+
+part-payment-line-end : tie.Need-part-payment-line-end
+part-payment-line-end c = line-inside _ _ _ (c .before .before .before .before .before .before .before .pre .0) (c .before .reach .ensures) .1
+
+payment-line-requires : tie.Need-payment-line-requires
+payment-line-requires c κs =
+    let start = c .before .before .before .before .before .before .before .before .before in
+    let i = line-inside _ _ _ (start .pre .0) (c .before .before .before .reach .ensures) in
+    let g = start .good .0 .1 in
+    (line-short _ _ _ (i .0) (i .1) (omega arith), start .pre .1)
+
+enum-known-c : tie.Need-enum-known-c
+enum-known-c c = search needs
+
+enum-told-2 : tie.Need-enum-told-2
+enum-told-2 c = search needs
+
+why-requires : tie.Need-why-requires
+why-requires c κs = search needs
+
+same-length : tie.Need-same-length
+same-length c = search needs
+
+returns-3 : tie.Need-returns-3
+returns-3 c =
+    let given = c .before .enum-told2 .given .1 in (
+      c .before .before .before .before .before .before .before .before .before .reach .result,
+      record {
+        ends = c .before .before .before .before .before .before .before .before .before .reach .ensures;
+        more = c .before .before .before .before .before .before .before .before .if1 .left;
+        told = ap payment.Refused (c .why .ensures ∙ ap paymentWhy given) ∙ sym given ∙ c .before .before .before .before .before .payment-line .ensures;
+      },
+    )
+
+add-next : tie.Need-add-next
+add-next c =
+    let start = c .before .before .before .before .before .before .before .before .before .before .before .before .before .before .before in
+    let i = line-inside _ _ _ (start .pre .0) (c .before .before .before .before .before .before .before .before .before .reach .ensures) .1 in
+    let g = start .good .0 .1 in
+    omega arith
+
+same-length-2 : tie.Need-same-length-2
+same-length-2 c = search needs
+
+returns-4 : tie.Need-returns-4
+returns-4 c = (
+  c .before .before .before .before .before .before .before .before .before .reach .result,
+  record {
+    ends = c .before .before .before .before .before .before .before .before .before .reach .ensures;
+    more = c .before .before .before .before .before .before .before .before .if1 .left;
+    told = sym (c .before .c .given .1) ∙ c .before .before .before .before .before .payment-line .ensures;
+  },
+  refl,
+)
+
+pub line-at-spec : {M : Type 1} → statement M
+line-at-spec =
+    tie.close
+    (tie.spec
+    read-line-requires
+    enum-known-quick
+    returns
+    enum-told
+    reach-requires
+    returns-2
+    sub-payment-line
+    part-payment-line-start
+    part-payment-line-end
+    payment-line-requires
+    enum-known-c
+    enum-told-2
+    why-requires
+    same-length
+    returns-3
+    add-next
+    same-length-2
+    returns-4)
