@@ -1,0 +1,134 @@
+// Whether both sides give the same on inputs that are not right.
+#include "damage.h"
+#include "agree.h"
+#include "generate.h"
+#include "lent.h"
+#include <stdio.h>
+#include <stdlib.h>
+#include <string.h>
+
+// A small file, and the copies of it: with one byte changed, cut, with one byte more.
+enum { SMALL_FILE = 3000, CHANGED = 5000, CUT = 400, LENGTHENED = 100, SEED = 19760701 };
+
+// What was compared so far, and the numbers that were met.
+struct tally {
+    int inputs;
+    bool met[256];
+};
+
+// A hundred payments of the most cents are just acceptable; with A and E they take so many bytes.
+enum { RICH_FILE = 100 * 256 + 256 };
+
+static const struct shape mixed = {"mixed", 15, 0};
+static const struct shape rich = {"rich", 2, MOST_CENTS_OF_ONE};
+
+// A byte such as records and listings have, or any.
+static uint8_t some_byte(struct chance *chance) {
+    static const char likely[] = "0123456789 ABCEGKL\t\n";
+    if (range(chance, 2) == 0)
+        return range(chance, 256);
+    return likely[range(chance, sizeof likely - 1)];
+}
+
+// Half of the places are in the first or the last 128 bytes, where A and E are.
+static size_t some_place(struct chance *chance, size_t length) {
+    switch (range(chance, 4)) {
+    case 0:
+        return range(chance, 128);
+    case 1:
+        return length - 1 - range(chance, 128);
+    default:
+        return range(chance, length);
+    }
+}
+
+// Damages copy number i, and tells its length: the cut ones get longer from copy to copy, beginning
+// with the empty one. There is room for one byte more.
+static size_t damage(uint8_t *copy, size_t length, int i, struct chance *chance) {
+    if (i < CHANGED) {
+        copy[some_place(chance, length)] = some_byte(chance);
+        return length;
+    }
+    if (i < CHANGED + CUT)
+        return length * (i - CHANGED) / CUT;
+    copy[length] = some_byte(chance);
+    return length + 1;
+}
+
+// The calls of a file, or that of a listing, on one input.
+static bool agree_on_input(const uint8_t *input, size_t length, bool is_file, struct tally *tally) {
+    struct work work = {
+        .file = input, .file_length = length, .listing = input, .listing_length = length};
+    enum call first = is_file ? CHECK : COMPOSE;
+    enum call last = is_file ? LIST : COMPOSE;
+    tally->inputs++;
+    for (enum call call = first; call <= last; call++) {
+        uint8_t number;
+        if (!same_answer(call, &work, length / 256, 4 * length, &number))
+            return false;
+        tally->met[number] = true;
+    }
+    return true;
+}
+
+static bool agree_on_copies(const uint8_t *input, size_t length, bool is_file,
+                            struct tally *tally) {
+    struct chance chance = {SEED};
+    uint8_t *copy = allocate(length + 1);
+    bool same = true;
+    for (int i = 0; same && i < CHANGED + CUT + LENGTHENED; i++) {
+        memcpy(copy, input, length);
+        same = agree_on_input(copy, damage(copy, length, i, &chance), is_file, tally);
+    }
+    free(copy);
+    return same;
+}
+
+static bool agree_on_small_file(struct tally *files, struct tally *listings) {
+    size_t payments, listing_length;
+    uint8_t *file = allocate(SMALL_FILE + LONGER);
+    size_t length = generate(file, SMALL_FILE, &mixed, &payments);
+    uint8_t *listing = listing_of(file, length, &listing_length);
+    bool same = agree_on_copies(file, length, true, files) &&
+                agree_on_copies(listing, listing_length, false, listings);
+    free(listing);
+    free(file);
+    return same;
+}
+
+// One payment beyond the most cents: a file that has it, and the listing of the file before with
+// its last line once more.
+static bool agree_on_cents(struct tally *files, struct tally *listings) {
+    size_t payments, listing_length;
+    uint8_t *file = allocate(RICH_FILE + 256 + LONGER);
+    size_t length = generate(file, RICH_FILE + 256, &rich, &payments);
+    bool same = agree_on_input(file, length, true, files);
+    length = generate(file, RICH_FILE, &rich, &payments);
+    uint8_t *listing = listing_of(file, length, &listing_length);
+    size_t last = listing_length - 1;
+    while (listing[last - 1] != '\n')
+        last--;
+    memcpy(listing + listing_length, listing + last, listing_length - last);
+    same = same && agree_on_input(listing, 2 * listing_length - last, false, listings);
+    free(listing);
+    free(file);
+    return same;
+}
+
+static void print_tally(const char *inputs, const struct tally *tally) {
+    printf("%d damaged %s, same answers; numbers met:", tally->inputs, inputs);
+    for (int number = 0; number < 256; number++)
+        if (tally->met[number])
+            printf(" %d", number);
+    printf("\n");
+}
+
+bool agree_on_damage(void) {
+    struct tally files = {0, {false}};
+    struct tally listings = {0, {false}};
+    if (!agree_on_small_file(&files, &listings) || !agree_on_cents(&files, &listings))
+        return false;
+    print_tally("files", &files);
+    print_tally("listings", &listings);
+    return true;
+}
