@@ -161,7 +161,7 @@ fn digits_of(f: &[u8]) -> Digits
 }
 
 // Whether b may stand in a text: blank, $ to &, * to 9, A to ] (the capitals and three umlauts), ~ (the sharp s).
-pub fn is_sign(b: u8) -> bool
+fn is_sign(b: u8) -> bool
     ensures { λ r. ⌜ r ≡ sign b ⌝ }
 {
     (b == b' ')

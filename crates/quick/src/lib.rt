@@ -4,6 +4,7 @@ ghost use mathlib.Core.Path.{_≡_};
 ghost use Prim.Native.Nat.{_+_, _≤_};
 ghost use lib.ListN.{length};
 ghost use Rattle.fields.specs.Answers.{lettersOf};
+ghost use Rattle.rules.specs.Signs.{sign};
 ghost use Rattle.sums.specs.Sums.{totalsOf};
 ghost use Rattle.quick.specs.Lines.{parted, Receivers, Amounts, Numbers, SignsTo, Texts, Names, OnePart, AllParts};
 ghost use Rattle.quick.specs.Told.{Told};
@@ -203,6 +204,17 @@ fn numbers_at(l: &[u8], p: usize, kind: FileKind, sums: Sums) -> NumbersSeen
     })
 }
 
+// The permitted signs of the 64 bytes from the blank on, a bit for each by its last six bits. The sharp s stands behind them.
+const SIGNS: u64 = 0x03FF_FC71_3FFF_FFFE;
+
+// Whether b is a permitted sign. Here they are tried one by one, and one look at the bits is less than five ranges.
+fn is_sign(b: u8) -> bool
+    ensures { λ r. ⌜ r ≡ sign b ⌝ }
+{
+    let told = (SIGNS >> (b & 63)) & 1 == 1;
+    (told & ((b >= 32) & (b < 96))) | (b == b'~')
+}
+
 // Where the permitted signs from p on end, 27 at the most.
 fn signs_end(l: &[u8], p: usize) -> usize
     requires { ⌜ p ≤ length (now l) ⌝ }
@@ -214,7 +226,7 @@ fn signs_end(l: &[u8], p: usize) -> usize
     }
     let mut i = p;
     while i < end {
-        if !fields::is_sign(l[i]) {
+        if !is_sign(l[i]) {
             break;
         }
         i += 1;
