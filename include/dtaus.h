@@ -12,7 +12,9 @@
 // Answers. Every input gets an answer, the empty one included; nothing has to be checked before.
 // Each call returns a number: 0 if it is done, else why it refused. Its figures go to the lent
 // slice `result`, always number and place first. The place is the first byte, counted from 0, of
-// the field of the input that is refused; with 0, 16 and 19 it is 0.
+// the field of the input that is refused (15: the first byte behind E; 17: the start of the line,
+// and so 6, and 9 where no payment may begin, in a listing; 18: the end of the listing); with 0, 16
+// and 19 it is 0.
 //
 // Refusals. A refused call leaves columns and output wholly as they were. Its result has number and
 // place, and 0 for each other figure of the layout. Where `result` is shorter than the layout, the
@@ -70,14 +72,14 @@ enum dtaus_number {
 #define DTAUS_C14A 0            // name of the beneficiary or payer, who has the account C5
 #define DTAUS_C15 1             // name of the sender or payee, who has the account C11
 #define DTAUS_C16 2             // purpose
-#define DTAUS_PART(i) (2 + (i)) // text of extension part i
+#define DTAUS_PART(i) (2 + (i)) // text of extension part i, from 1 on: 0 gives DTAUS_C16
 
 // Checks a file.
 //
 // result[0] number, [1] place, [2] count of payments, [3] sum of account numbers (C5), [4] sum of
 // bank codes (C4), [5] sum of cents (C12). The sums are added up from the payments.
 //
-// Refuses with 1 to 15. It writes to `result` alone.
+// Refuses with 16 where the result is too short; then with 1 to 15. It writes to `result` alone.
 uint8_t dtaus_check(const uint8_t *file, size_t file_length, uint64_t *result,
                     size_t result_length);
 
@@ -90,8 +92,8 @@ uint8_t dtaus_check(const uint8_t *file, size_t file_length, uint64_t *result,
 //
 // result: as of dtaus_check.
 //
-// Refuses with 1 to 15; then with 16 at 0 where a column is too short. Columns then stay as they
-// were.
+// Refuses with 16 where the result is too short; then with 1 to 15; then with 16 at 0 where a column
+// is too short. Columns then stay as they were.
 uint8_t dtaus_load(const uint8_t *file, size_t file_length, uint64_t *bank_codes,
                    size_t bank_codes_length, uint64_t *accounts, size_t accounts_length,
                    uint64_t *cents, size_t cents_length, uint64_t *starts, size_t starts_length,
@@ -107,8 +109,8 @@ uint8_t dtaus_load(const uint8_t *file, size_t file_length, uint64_t *bank_codes
 //
 // result[0] number, [1] place, [2] length of the listing. Output behind that is never touched.
 //
-// Refuses with 1 to 15; then with 16 at 0 where the output is too short. The output then stays as
-// it was.
+// Refuses with 16 where the result is too short; then with 1 to 15; then with 16 at 0 where the
+// output is too short. The output then stays as it was.
 uint8_t dtaus_list(const uint8_t *file, size_t file_length, uint8_t *output, size_t output_length,
                    uint64_t *result, size_t result_length);
 
@@ -121,9 +123,10 @@ uint8_t dtaus_list(const uint8_t *file, size_t file_length, uint8_t *output, siz
 // result[0] number, [1] place in the listing, [2] length of the file. Output behind that is never
 // touched.
 //
-// Refuses line by line: with 17 at the line's start; with 6 or 9 there, where no payment may begin;
-// with 2, 3, 4 and 9 to 13 at the field in the listing. Then with 18 at the listing's end; then
-// with 16 at 0 where the output is too short. The output then stays as it was.
+// Refuses with 16 where the result is too short; then line by line: with 17 at the line's start;
+// with 6 or 9 there, where no payment may begin; with 2, 3, 4 and 9 to 13 at the field in the
+// listing. Then with 18 at the listing's end; then with 16 at 0 where the output is too short. The
+// output then stays as it was.
 uint8_t dtaus_compose(const uint8_t *listing, size_t listing_length, uint8_t *output,
                       size_t output_length, uint64_t *result, size_t result_length);
 
@@ -132,8 +135,8 @@ uint8_t dtaus_compose(const uint8_t *listing, size_t listing_length, uint8_t *ou
 // result[0] number, [1] place, [2] from: the payment's first byte, [3] to: the end of the file. So
 // file[from..to) is the payment and all that follows it.
 //
-// Refuses with 1 to 15; then with 19 at 0 where the file has no such payment. It writes to `result`
-// alone.
+// Refuses with 16 where the result is too short; then with 1 to 15; then with 19 at 0 where the file
+// has no such payment. It writes to `result` alone.
 uint8_t dtaus_find(const uint8_t *file, size_t file_length, size_t payment, uint64_t *result,
                    size_t result_length);
 
@@ -144,8 +147,8 @@ uint8_t dtaus_find(const uint8_t *file, size_t file_length, size_t payment, uint
 // result[0] number, [1] place, [2] from, [3] to: the text is file[from..to), always 27 bytes, with
 // its closing blanks.
 //
-// Refuses with 1 to 15; then with 19 at 0 where no payment of the file begins at start, or it has
-// no such part. It writes to `result` alone.
+// Refuses with 16 where the result is too short; then with 1 to 15; then with 19 at 0 where no
+// payment of the file begins at start, or it has no such part. It writes to `result` alone.
 uint8_t dtaus_text(const uint8_t *file, size_t file_length, size_t start, size_t wanted,
                    uint64_t *result, size_t result_length);
 

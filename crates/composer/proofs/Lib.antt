@@ -2,10 +2,8 @@ pub mod WalkLaws
 pub mod ByteLaws
 pub mod FormLaws
 pub mod WideLaws
-pub mod RestLaws
 pub mod LayLaws
 pub mod OwnLaws
-pub mod EndLaws
 pub mod PutLaws
 pub mod HeardLaws
 pub mod ToldLaws
@@ -16,4 +14,3 @@ pub mod WritingLaws
 pub mod FileLaws
 pub mod CallLaws
 pub mod Answers
-pub mod QuickLaws

@@ -33,7 +33,7 @@ use Rattle.pen.proofs.CellLaws.{fields-first}
 use Rattle.composer.proofs.WalkLaws.{formed-count}
 use Rattle.composer.proofs.FormLaws.{all-fields}
 use Rattle.composer.proofs.WideLaws.{texts-inside, texts-behind}
-use Rattle.composer.proofs.RestLaws.{reach-behind, restFrom}
+use Rattle.composer.proofs.ByteLaws.{reach-behind, restFrom}
 use Rattle.composer.proofs.ToldLaws.{few, min-is}
 use Rattle.composer.proofs.FirstLineLaws.{made-lines}
 use Rattle.composer.proofs.StepLaws.{lineTo, line-inside, last-piece, line-within, here, step}

@@ -1,4 +1,5 @@
-// A line of a listing, without its end: how many fields it has, its form, and where a field of its record stands in it.
+// A line of a listing, without its end: how many fields it has, its form, and where a field of its record stands in it; and the rest of a line within a
+// listing.
 ghost use mathlib.Core.Path.{_≡_};
 ghost use Prim.Native.Nat.{_+_, _≤_, _<_};
 ghost use mathlib.Core.List.{[], _∷_, _++_};
@@ -9,7 +10,7 @@ ghost use Rattle.pen.specs.Walking.{reach, letterOf, cellsOf};
 ghost use Rattle.composer.specs.Telling.{formedAs, lineFormed, FormedLine, placeIn};
 use pen::Cell;
 
-// In a payment's line of its form, the letter and nine numbers of fixed width stand ahead of the first text, which begins at this place.
+// In a payment's line of its form, how many fields stand ahead of the first text, the letter and nine numbers of full width, and where that text begins.
 pub(crate) const AHEAD_OF_TEXTS: usize = 10;
 
 pub(crate) const TEXTS: usize = 84;
@@ -41,13 +42,14 @@ pub(crate) fn count_fields(x: &[u8]) -> usize
     fields
 }
 
-// Where a line of a listing ends, and how many fields stand before.
+// Where a line of a listing ends, and how many fields stand ahead of that from the place asked on.
 pub(crate) struct Rest {
     pub end: usize,
     pub fields: usize,
 }
 
-// The line from p on, in a listing where its end is to come: so no byte is tested for more than what may end a field.
+// The line from p on, in a listing where its end is still to come, so that no place is held against the listing's length. Tab and line end are small bytes:
+// one comparison passes nearly all others.
 pub(crate) fn rest_of_line(l: &[u8], p: usize) -> Rest
     requires { ⌜ p + reach lineEnd (drop p (now l)) < length (now l) ⌝ }
     ensures end { λ r. ⌜ r .end ≡ p + reach lineEnd (drop p (now (l .entry))) ⌝ }

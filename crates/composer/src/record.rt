@@ -18,6 +18,9 @@ use fields::fixed;
 use fields::lengths;
 use sums::Sums;
 
+// How many numbers the line of a C begins with.
+const NUMBERS: usize = 9;
+
 // What A has of its own; the rest is blank.
 fn own_of_a(out: &mut [u8])
     requires { ⌜ length (now out) ≡ 128 ⌝ }
@@ -48,7 +51,8 @@ fn own_of_c(k: usize, out: &mut [u8])
     pen::put_number(out, pen::PARTS, parts, 2);
 }
 
-// The nine numbers that begin the line of a C of k parts, C3 to C7b and C10 to C12. Each has its full width, so their places in the line are fixed.
+// The nine numbers that begin the line of a C of k parts, C3 to C7b and C10 to C12. Each has its full width, so their places in the line are fixed. They are
+// put one by one, so that the compiler knows the width of each.
 fn put_numbers(k: usize, x: &[u8], out: &mut [u8])
     requires { ⌜ Layable false k (12 + 2 * k) (now x) (now out) 0 2 × (84 ≤ length (now x)) ⌝ }
     ensures { λ _. ⌜ now (out .exit) ≡ lay (recordC k) (take 9 (behindLetter (split tab (now (x .entry))))) ⌝ }
@@ -117,7 +121,15 @@ pub(crate) fn lay_payment(k: usize, x: &[u8], out: &mut [u8])
 {
     own_of_c(k, out);
     put_numbers(k, x, out);
-    put_fields(false, k, pen::FIELDS_OF_C + 2 * k, x, 9, line::TEXTS, out);
+    put_fields(
+        false,
+        k,
+        pen::FIELDS_OF_C + 2 * k,
+        x,
+        NUMBERS,
+        line::TEXTS,
+        out,
+    );
 }
 
 // E after so many payments that come to these sums.

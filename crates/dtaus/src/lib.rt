@@ -1,6 +1,7 @@
 // The library for C: each call on numbers and lent slices alone. A slice is a pointer and then the number of its entries. What a call finds it tells
 // in a lent slice of numbers, the result; the number that it returns is the result's first.
 ghost use mathlib.Core.Path.{_≡_};
+ghost use Prim.Native.Nat.{_≤_};
 ghost use mathlib.Core.List.{[], _∷_};
 ghost use lib.ListN.{length};
 ghost use Rattle.rules.specs.Answer.{filled};
@@ -25,11 +26,9 @@ const SPOT_FIGURES: usize = 4;
 
 // Tells number and place, the count, and the sums in the order of E.
 fn tell_outcome(result: &mut [u64], number: u8, place: usize, count: u64, sums: Sums)
+    requires { ⌜ 6 ≤ length (now result) ⌝ }
     ensures { λ _. ⌜ now (result .exit) ≡ told (outcomeFigures (record { number = number; place = place; totals = totalsOf count sums })) (now (result .entry)) ⌝ }
 {
-    if result.len() < OUTCOME_FIGURES {
-        return;
-    }
     result[0] = number as u64;
     result[1] = place as u64;
     result[2] = count;
@@ -40,11 +39,9 @@ fn tell_outcome(result: &mut [u64], number: u8, place: usize, count: u64, sums: 
 
 // Tells number and place, and the length.
 fn tell_written(result: &mut [u64], w: Written)
+    requires { ⌜ 3 ≤ length (now result) ⌝ }
     ensures { λ _. ⌜ now (result .exit) ≡ told (writtenFigures w) (now (result .entry)) ⌝ }
 {
-    if result.len() < WRITTEN_FIGURES {
-        return;
-    }
     result[0] = w.number as u64;
     result[1] = w.place as u64;
     result[2] = w.length as u64;
@@ -52,11 +49,9 @@ fn tell_written(result: &mut [u64], w: Written)
 
 // Tells number and place, and where the stretch begins and ends.
 fn tell_spot(result: &mut [u64], spot: Spot)
+    requires { ⌜ 4 ≤ length (now result) ⌝ }
     ensures { λ _. ⌜ now (result .exit) ≡ told (spotFigures spot) (now (result .entry)) ⌝ }
 {
-    if result.len() < SPOT_FIGURES {
-        return;
-    }
     result[0] = spot.number as u64;
     result[1] = spot.place as u64;
     result[2] = spot.from as u64;

@@ -31,7 +31,7 @@ pub const FIRST_PAYMENT: usize = 128;
 // Where in a payment the number of its parts stands, C18.
 pub const PARTS: usize = 185;
 
-// What a call that writes gives back: number and place, and how many bytes it wrote. With 0 the place is 0, with any other number the rest is.
+// What a call that writes gives back: number and place, and how many bytes it wrote. With 0 the place is 0, with any other number the length is.
 pub struct Written {
     pub number: u8,
     pub place: usize,
@@ -110,7 +110,7 @@ pub fn letter(head: bool) -> u8
     fixed::LETTER_C[0]
 }
 
-// An entry of a table.
+// An entry of a table as a place or a width: the tables hold bytes.
 fn wide(b: u8) -> usize
     ensures { λ r. ⌜ r ≡ b ⌝ }
 {

@@ -10,13 +10,11 @@ use lib.Seq.{length-take-le, getD-take, getD-drop}
 use lib.Dec.{T}
 use borrow.Author.Tests.{ne-eqb}
 use Rattle.form.specs.Kind.{digits}
-use Rattle.form.specs.Reader.{has}
 use Rattle.form.specs.Place.{lookAt}
 use Rattle.rules.specs.Fields.{roomAfter, markOk}
 use Rattle.fields.specs.declared.Number.{Number}
 use Rattle.fields.specs.declared.Number.the-variants as number
 use Rattle.fields.specs.Answers as answers
-use Rattle.quick.specs.Lines.{SignsTo}
 use Rattle.fields.proofs.AnswerLaws.{number-is}
 use Rattle.sums.specs.declared.Sums.{Sums}
 use Rattle.listing.specs.Lines.{tab, lineEnd, endsInBlank}
@@ -26,7 +24,7 @@ use Rattle.quick.specs.declared.TextSeen.{TextSeen}
 use Rattle.quick.specs.declared.TextSeen.the-variants as text
 use Rattle.quick.specs.declared.PartSeen.{PartSeen}
 use Rattle.quick.specs.declared.PartSeen.the-variants as part
-use Rattle.quick.specs.Lines.{Numbers, AllNumbers, behindTab, Text, Texts, Names, Part, OnePart, PartsTo, ended, more}
+use Rattle.quick.specs.Lines.{SignsTo, Numbers, AllNumbers, behindTab, Text, Texts, Names, Part, OnePart, PartsTo, ended, more}
 
 pub numbers-is : {l : List ℕ} {p : ℕ} {letters : List ℕ} {sums : Sums} {a : NumbersSeen} → Numbers l p letters sums a → {new : Sums} → a ≡ numbers.Are new
     → AllNumbers l p letters sums new

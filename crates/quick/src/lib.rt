@@ -41,7 +41,10 @@ const C11: usize = 61;
 const C12: usize = 72;
 
 // Where the tab behind them stands, with which the texts begin.
-const TEXTS: usize = 83;
+const TAB_OF_TEXTS: usize = 83;
+
+// The permitted signs of the 64 bytes from the blank on, a bit for each by its last six bits. The sharp s stands behind them.
+const SIGNS: u64 = 0x03FF_FC71_3FFF_FFFE;
 
 // The sums with a payment's account number and bank code.
 enum ReceiverSeen {
@@ -183,7 +186,7 @@ fn numbers_at(l: &[u8], p: usize, kind: FileKind, sums: Sums) -> NumbersSeen
     let accounts = sums.accounts;
     let banks = sums.banks;
     let cents = sums.cents;
-    if !fields::whole(l.len(), p, TEXTS) {
+    if !fields::whole(l.len(), p, TAB_OF_TEXTS) {
         return NumbersSeen::No;
     }
     if !parted(l, p) {
@@ -204,15 +207,12 @@ fn numbers_at(l: &[u8], p: usize, kind: FileKind, sums: Sums) -> NumbersSeen
     })
 }
 
-// The permitted signs of the 64 bytes from the blank on, a bit for each by its last six bits. The sharp s stands behind them.
-const SIGNS: u64 = 0x03FF_FC71_3FFF_FFFE;
-
 // Whether b is a permitted sign. Here they are tried one by one, and one look at the bits is less than five ranges.
 fn is_sign(b: u8) -> bool
     ensures { λ r. ⌜ r ≡ sign b ⌝ }
 {
-    let told = (SIGNS >> (b & 63)) & 1 == 1;
-    (told & ((b >= 32) & (b < 96))) | (b == b'~')
+    let in_word = (SIGNS >> (b & 63)) & 1 == 1;
+    (in_word & ((b >= 32) & (b < 96))) | (b == b'~')
 }
 
 // Where the permitted signs from p on end, 27 at the most.
@@ -272,7 +272,7 @@ fn names_at(l: &[u8], q: usize) -> TextSeen
     text_at(l, p16)
 }
 
-// A part, the tab of its mark at q, where room parts can follow the one before it.
+// A part, the tab of its mark at q, where so many parts may still stand, this one among them.
 fn part_at(l: &[u8], q: usize, room: u64) -> PartSeen
     requires { ⌜ q + 1 ≤ length (now l) ⌝ }
     ensures { λ r. ⌜ OnePart (now (l .entry)) q room r ⌝ }
@@ -294,7 +294,7 @@ fn part_at(l: &[u8], q: usize, room: u64) -> PartSeen
     PartSeen::Is(mark, e)
 }
 
-// The parts from q on, up to the line's end.
+// The parts from `start` on, up to the line's end.
 fn parts_from(l: &[u8], start: usize) -> PartsSeen
     ensures { λ r. ⌜ AllParts (now (l .entry)) start r ⌝ }
 {
@@ -327,7 +327,7 @@ pub fn read_line(l: &[u8], p: usize, kind: FileKind, count: u64, sums: Sums) -> 
     let NumbersSeen::Are(new_sums) = numbers else {
         return Quick::No;
     };
-    let names = names_at(l, p + TEXTS);
+    let names = names_at(l, p + TAB_OF_TEXTS);
     let TextSeen::To(first) = names else {
         return Quick::No;
     };

@@ -2,12 +2,11 @@
 -- Assumes nothing.
 use native.Mathlib.Omega.{arith}
 use mathlib.Core.Path.{refl, sym, ap, _∙_, subst}
+use borrow.Author.Needs.{needs}
 use Rattle.payment.specs.declared.PaymentRead.the-variants as payment
 use Rattle.payment.specs.Adding.{paymentWhy}
 use Rattle.quick.specs.Told.{Told}
-use Rattle.composer.proofs.StepLaws.{line-inside, line-short}
-use Rattle.composer.proofs.QuickLaws.{quick-told}
-use borrow.Author.Needs.{needs}
+use Rattle.composer.proofs.StepLaws.{line-inside, line-short, quick-told}
 use Rattle.composer.proofs.line_at.Statement.{statement}
 use Rattle.composer.proofs.line_at.Tie as tie
 

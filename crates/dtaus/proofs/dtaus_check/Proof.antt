@@ -1,5 +1,6 @@
 -- dtaus::dtaus_check meets its contract: a result without room is refused, any other gets the figures of the check.
 -- Assumes nothing.
+use native.Mathlib.Omega.{arith}
 use borrow.Author.Needs.{needs}
 use Rattle.dtaus.proofs.CallLaws.{check-short, check-told}
 use Rattle.dtaus.proofs.dtaus_check.Statement.{statement}
@@ -8,13 +9,13 @@ use Rattle.dtaus.proofs.dtaus_check.Tie as tie
 returns : tie.Need-returns
 returns c =
     let a = c .before .before .before .args in
-    check-short (a .result .now) (a .file .now) (c .if1 .taken)
+    check-short (a .result .now) (a .file .now) (omega (arith, c .if1 .taken))
 
 check-requires : tie.Need-check-requires
 check-requires c κs = search needs
 
 tell-outcome-requires : tie.Need-tell-outcome-requires
-tell-outcome-requires c κs = search needs
+tell-outcome-requires c κs = c .before .before .before .if1 .left
 
 same-length : tie.Need-same-length
 same-length c = search needs

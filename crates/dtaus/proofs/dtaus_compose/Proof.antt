@@ -1,5 +1,6 @@
 -- dtaus::dtaus_compose meets its contract: a result without room is refused, any other gets the figures of the composing, which has written the output.
 -- Assumes nothing.
+use native.Mathlib.Omega.{arith}
 use borrow.Author.Needs.{needs}
 use Rattle.dtaus.proofs.CallLaws.{compose-short, compose-told}
 use Rattle.dtaus.proofs.dtaus_compose.Statement.{statement}
@@ -8,13 +9,13 @@ use Rattle.dtaus.proofs.dtaus_compose.Tie as tie
 returns : tie.Need-returns
 returns c =
     let a = c .before .before .before .before .args in
-    compose-short (a .result .now) (a .listing .now) (a .output .now) (c .if1 .taken)
+    compose-short (a .result .now) (a .listing .now) (a .output .now) (omega (arith, c .if1 .taken))
 
 compose-requires : tie.Need-compose-requires
 compose-requires c κs = search needs
 
 tell-written-requires : tie.Need-tell-written-requires
-tell-written-requires c κs = search needs
+tell-written-requires c κs = c .before .before .before .before .before .if1 .left
 
 same-length : tie.Need-same-length
 same-length c = search needs

@@ -1,5 +1,6 @@
 -- dtaus::dtaus_load meets its contract: a result without room is refused, any other gets the figures of the load, which has filled the columns.
 -- Assumes nothing.
+use native.Mathlib.Omega.{arith}
 use borrow.Author.Needs.{needs}
 use Rattle.dtaus.proofs.CallLaws.{load-short, load-told}
 use Rattle.dtaus.proofs.dtaus_load.Statement.{statement}
@@ -8,13 +9,13 @@ use Rattle.dtaus.proofs.dtaus_load.Tie as tie
 returns : tie.Need-returns
 returns c =
     let a = c .before .before .before .before .before .before .before .args in
-    load-short (a .result .now) (a .file .now) (a .c4 .now) (a .c5 .now) (a .c12 .now) (a .start .now) (c .if1 .taken)
+    load-short (a .result .now) (a .file .now) (a .c4 .now) (a .c5 .now) (a .c12 .now) (a .start .now) (omega (arith, c .if1 .taken))
 
 load-requires : tie.Need-load-requires
 load-requires c κs = search needs
 
 tell-outcome-requires : tie.Need-tell-outcome-requires
-tell-outcome-requires c κs = search needs
+tell-outcome-requires c κs = c .before .before .before .before .before .before .before .before .before .before .before .before .before .before .before .if1 .left
 
 same-length : tie.Need-same-length
 same-length c = search needs

@@ -1,5 +1,6 @@
 -- dtaus::dtaus_text meets its contract: a result without room is refused, any other gets the figures of the stretch of the text that the number names.
 -- Assumes nothing.
+use native.Mathlib.Omega.{arith}
 use borrow.Author.Needs.{needs}
 use mathlib.Core.Path.{ap, _∙_}
 use Rattle.spots.specs.Spots.{locateAt}
@@ -10,7 +11,7 @@ use Rattle.dtaus.proofs.dtaus_text.Tie as tie
 returns : tie.Need-returns
 returns c =
     let a = c .before .before .before .args in
-    text-short (a .result .now) (a .file .now) (a .start) (a .wanted) (c .if1 .taken)
+    text-short (a .result .now) (a .file .now) (a .start) (a .wanted) (omega (arith, c .if1 .taken))
 
 text-named-requires : tie.Need-text-named-requires
 text-named-requires c κs = search needs
@@ -19,7 +20,7 @@ locate-requires : tie.Need-locate-requires
 locate-requires c κs = search needs
 
 tell-spot-requires : tie.Need-tell-spot-requires
-tell-spot-requires c κs = search needs
+tell-spot-requires c κs = c .before .before .before .if1 .left
 
 same-length : tie.Need-same-length
 same-length c = search needs

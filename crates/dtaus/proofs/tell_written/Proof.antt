@@ -1,16 +1,13 @@
--- dtaus::tell_written meets its contract: a result with room for three figures gets them, any other stays as it was.
+-- dtaus::tell_written meets its contract: the three figures are stored one by one.
 -- Assumes nothing.
 use Prim.Native.Nat.{_<_}
 use native.Mathlib.Omega.{arith}
 use borrow.Author.Needs.{needs}
 use mathlib.Core.Path.{_∙_}
 use lib.ListN.{length}
-use Rattle.dtaus.proofs.TellingLaws.{not-told, all-told, three-stored}
+use Rattle.dtaus.proofs.TellingLaws.{all-told, three-stored}
 use Rattle.dtaus.proofs.tell_written.Statement.{statement}
 use Rattle.dtaus.proofs.tell_written.Tie as tie
-
-returns : tie.Need-returns
-returns c = not-told _ (c .before .args .result .now) (omega (arith, c .if1 .taken))
 
 cast-result : tie.Need-cast-result
 cast-result c = search needs
@@ -20,7 +17,7 @@ slice-write-result c = search needs
 
 slice-write-result-2 : tie.Need-slice-write-result-2
 slice-write-result-2 c =
-    let h : 1 < length (c .before .before .args .result .now) = omega (arith, c .before .if1 .left) in
+    let h : 1 < length (c .before .args .result .now) = omega (arith, c .before .pre) in
     search (needs, h)
 
 slice-write-result-3 : tie.Need-slice-write-result-3
@@ -29,19 +26,18 @@ slice-write-result-3 c = search needs
 same-length : tie.Need-same-length
 same-length c = search needs
 
-returns-2 : tie.Need-returns-2
-returns-2 c =
-    let xs = c .before .before .args .result .now in
-    three-stored xs _ _ _ (c .before .if1 .left) ∙ all-told _ xs (c .before .if1 .left)
+returns : tie.Need-returns
+returns c =
+    let xs = c .before .args .result .now in
+    three-stored xs _ _ _ (c .before .pre) ∙ all-told _ xs (c .before .pre)
 
 pub tell-written-spec : {M : Type 1} → statement M
 tell-written-spec =
     tie.close
     (tie.spec
-    returns
     cast-result
     slice-write-result
     slice-write-result-2
     slice-write-result-3
     same-length
-    returns-2)
+    returns)

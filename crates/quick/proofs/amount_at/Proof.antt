@@ -81,9 +81,9 @@ returns-6 c =
     record {
       fields =
           record { senderBank = at-c10 .c10 .given .0 .0; senderAccount = at-c11 .c11 .given .0 .0; cents = at-c12 .c12 .given .0 .0 };
-      C10 = kept-C10 _ _ _ (number-is _ _ _ (c .before .before .before .before .before .before .before .before .before .before .before .before .before .before .before .before .before .number-at .ensures) (at-c10 .c10 .given .1) .0) (sym (c .before .before .before .before .before .bank-code-ok .ensures) ∙ sender .0);
-      C11 = kept-C11 _ _ _ (number-is _ _ _ (c .before .before .before .before .before .before .before .before .before .before .before .before .before .number-at2 .ensures) (at-c11 .c11 .given .1) .0) (sender .1);
-      C12 = kept-C12 _ _ _ _ (number-is _ _ _ (c .before .before .before .before .before .before .before .before .before .number-at3 .ensures) (at-c12 .c12 .given .1) .0) (tests .1) (on .0);
+      C10 = kept-C10 _ _ _ (number-is _ _ _ (at-c10 .before .before .number-at .ensures) (at-c10 .c10 .given .1) .0) (sym (c .before .before .before .before .before .bank-code-ok .ensures) ∙ sender .0);
+      C11 = kept-C11 _ _ _ (number-is _ _ _ (at-c11 .before .before .number-at2 .ensures) (at-c11 .c11 .given .1) .0) (sender .1);
+      C12 = kept-C12 _ _ _ _ (number-is _ _ _ (at-c12 .before .before .number-at3 .ensures) (at-c12 .c12 .given .1) .0) (tests .1) (on .0);
       centsOn = on .1;
     }
 

@@ -22,14 +22,14 @@ are-signs b h = agree told sign 256 b refl h
 low : (b : ℕ) → bitAnd b 63 < 64
 low b = mask-lt b 6
 
-cast-told : tie.Need-cast-told
-cast-told c = let h = low (c .args .b) in omega (arith, h)
+cast-in-word : tie.Need-cast-in-word
+cast-in-word c = let h = low (c .args .b) in omega (arith, h)
 
-shr-told : tie.Need-shr-told
-shr-told c = low (c .args .b)
+shr-in-word : tie.Need-shr-in-word
+shr-in-word c = low (c .args .b)
 
 returns : tie.Need-returns
 returns c = are-signs (c .args .b) (omega arith)
 
 pub is-sign-spec : {M : Type 1} → statement M
-is-sign-spec = tie.close (tie.spec cast-told shr-told returns)
+is-sign-spec = tie.close (tie.spec cast-in-word shr-in-word returns)

@@ -158,14 +158,14 @@ returns-10 c =
             key = at-c7a .c7a .given .0 .0;
             supplement = at-c7b .enum-told7 .given .0 .0;
           };
-      C3 = number-is _ _ _ (c .before .before .before .before .before .before .before .before .before .before .before .before .before .before .before .before .before .before .before .before .before .before .before .before .before .before .before .before .before .before .before .before .before .number-at .ensures) (at-c3 .enum-told .given .1) .0;
+      C3 = number-is _ _ _ (at-c3 .before .before .number-at .ensures) (at-c3 .enum-told .given .1) .0;
       C4 =
-          kept-C4 _ _ _ _ (number-is _ _ _ (c .before .before .before .before .before .before .before .before .before .before .before .before .before .before .before .before .before .before .before .before .before .before .before .before .before .before .before .before .before .before .number-at2 .ensures) (at-c4 .c4 .given .1) .0) (sym (c .before .before .before .before .before .before .before .before .before .before .before .bank-code-ok .ensures) ∙ receiver .0)
+          kept-C4 _ _ _ _ (number-is _ _ _ (at-c4 .before .before .number-at2 .ensures) (at-c4 .c4 .given .1) .0) (sym (c .before .before .before .before .before .before .before .before .before .before .before .bank-code-ok .ensures) ∙ receiver .0)
           (banks .0);
-      C5 = kept-C5 _ _ _ _ (number-is _ _ _ (c .before .before .before .before .before .before .before .before .before .before .before .before .before .before .before .before .before .before .before .before .before .before .before .before .before .before .number-at3 .ensures) (at-c5 .c5 .given .1) .0) (receiver .1) (on .0);
-      C6 = kept-C6 _ _ _ (number-is _ _ _ (c .before .before .before .before .before .before .before .before .before .before .before .before .before .before .before .before .before .before .before .before .before .before .number-at4 .ensures) (at-c6 .c6 .given .1) .0) (sym (c .before .before .before .before .before .before .before .before .before .before .customer-ok .ensures) ∙ keys .0);
-      C7a = kept-C7a _ _ _ (lettersOf (c .before .before .before .before .before .before .before .before .before .before .before .before .before .before .before .before .before .before .before .before .before .before .before .before .before .before .before .before .before .before .before .before .before .before .before .args .kind)) (number-is _ _ _ (c .before .before .before .before .before .before .before .before .before .before .before .before .before .before .before .before .before .before .number-at5 .ensures) (at-c7a .c7a .given .1) .0) (sym (c .before .before .before .before .before .before .before .before .before .key-ok .ensures) ∙ keys .1);
-      C7b = number-is _ _ _ (c .before .before .before .before .before .before .before .before .before .before .before .before .before .before .number-at6 .ensures) (at-c7b .enum-told7 .given .1) .0;
+      C5 = kept-C5 _ _ _ _ (number-is _ _ _ (at-c5 .before .before .number-at3 .ensures) (at-c5 .c5 .given .1) .0) (receiver .1) (on .0);
+      C6 = kept-C6 _ _ _ (number-is _ _ _ (at-c6 .before .before .number-at4 .ensures) (at-c6 .c6 .given .1) .0) (sym (c .before .before .before .before .before .before .before .before .before .before .customer-ok .ensures) ∙ keys .0);
+      C7a = kept-C7a _ _ _ (lettersOf (c .before .before .before .before .before .before .before .before .before .before .before .before .before .before .before .before .before .before .before .before .before .before .before .before .before .before .before .before .before .before .before .before .before .before .before .args .kind)) (number-is _ _ _ (at-c7a .before .before .number-at5 .ensures) (at-c7a .c7a .given .1) .0) (sym (c .before .before .before .before .before .before .before .before .before .key-ok .ensures) ∙ keys .1);
+      C7b = number-is _ _ _ (at-c7b .before .before .number-at6 .ensures) (at-c7b .enum-told7 .given .1) .0;
       accountsOn = on .1;
       banksOn = banks .1;
     }

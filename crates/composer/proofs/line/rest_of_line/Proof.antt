@@ -4,7 +4,7 @@ use Prim.Native.Nat.{_-_, _≤_, _<_}
 use native.Mathlib.Omega.{arith}
 use mathlib.Core.Logic.{⊎-elim}
 use lib.ListN.{length}
-use Rattle.composer.proofs.RestLaws.{Resting, rest-start, rest-ends, rest-tab, rest-on}
+use Rattle.composer.proofs.ByteLaws.{Resting, rest-start, rest-ends, rest-tab, rest-on}
 use Rattle.composer.proofs.line.rest_of_line.Statement.{statement}
 use Rattle.composer.proofs.line.rest_of_line.Tie as tie
 

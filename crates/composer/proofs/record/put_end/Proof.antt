@@ -5,7 +5,7 @@ use mathlib.Core.Path.{ap, _∙_}
 use lib.ListN.{length}
 use borrow.Author.Needs.{needs}
 use Rattle.rules.proofs.LayoutLaws.{end-length}
-use Rattle.composer.proofs.EndLaws.{end-written}
+use Rattle.composer.proofs.OwnLaws.{end-written}
 use Rattle.composer.proofs.record.put_end.Statement.{statement}
 use Rattle.composer.proofs.record.put_end.Tie as tie
 
