@@ -16,6 +16,11 @@ struct tally {
     bool met[256];
 };
 
+// The numbers that the damage must have led to: all that a file, or a listing, can get but those of
+// too many payments and of too little room.
+static const uint8_t of_files[] = {1, 2, 3, 4, 5, 9, 10, 11, 12, 13, 14, 15};
+static const uint8_t of_listings[] = {2, 3, 4, 9, 10, 11, 12, 13, 17, 18};
+
 // A hundred payments of the most cents are just acceptable; with A and E they take so many bytes.
 enum { RICH_FILE = 100 * 256 + 256 };
 
@@ -123,12 +128,23 @@ static void print_tally(const char *inputs, const struct tally *tally) {
     printf("\n");
 }
 
+static bool has_met(const struct tally *tally, const uint8_t *numbers, size_t count) {
+    bool all = true;
+    for (size_t i = 0; i < count; i++)
+        if (!tally->met[numbers[i]]) {
+            printf("number %u is not met\n", numbers[i]);
+            all = false;
+        }
+    return all;
+}
+
 bool agree_on_damage(void) {
     struct tally files = {0, {false}};
     struct tally listings = {0, {false}};
     if (!agree_on_small_file(&files, &listings) || !agree_on_cents(&files, &listings))
         return false;
     print_tally("files", &files);
+    bool all_of_files = has_met(&files, of_files, sizeof of_files);
     print_tally("listings", &listings);
-    return true;
+    return has_met(&listings, of_listings, sizeof of_listings) && all_of_files;
 }

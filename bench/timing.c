@@ -1,4 +1,5 @@
 // The times of both sides on one input.
+#define _POSIX_C_SOURCE 200809L
 #include "timing.h"
 #include <float.h>
 #include <time.h>

@@ -13,9 +13,9 @@ enum { BLANK = 0, SIGN = 1, OTHER = 2 };
 
 extern const uint8_t sign_class[256];
 
-// The most blanks and the most zeros that stand in one field.
-extern const char blanks_99[99];
-extern const char zeros_13[13];
+// The most blanks and the most zeros that stand in one field, and the 0 that ends a string.
+extern const char blanks_99[100];
+extern const char zeros_13[14];
 
 static inline enum number fixed(const uint8_t *field, const char *want, size_t width) {
     return memcmp(field, want, width) == 0 ? ACCEPTED : NOT_FIXED;

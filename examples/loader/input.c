@@ -76,4 +76,8 @@ bool read_input(const char *name, struct input *input) {
     return done;
 }
 
-void release_input(struct input *input) { free(input->bytes); }
+void release_input(struct input *input) {
+    int reason = errno;
+    free(input->bytes);
+    errno = reason;
+}

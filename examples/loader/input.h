@@ -14,6 +14,7 @@ struct input {
 // False where the file cannot be read; errno then says why, and there is nothing to release.
 bool read_input(const char *name, struct input *input);
 
+// Leaves errno as it is.
 void release_input(struct input *input);
 
 #endif

@@ -1,6 +1,7 @@
 // The loader: reads a DTAUS file, has the library load it, and writes its rows for a store, or says
 // why not. It ends with 0 where the output is written, with 1 where the file is refused, and with 2
 // where the file cannot be read or the output not be written: then nothing is said about the file.
+// It also ends with 2 where the output is written and only the figures could not be printed.
 #include <errno.h>
 #include <inttypes.h>
 #include <stdlib.h>
@@ -65,10 +66,11 @@ static bool parse_request(int count, char **words, struct request *request) {
     return true;
 }
 
-static void print_figures(const struct payments *payments) {
+static bool print_figures(const struct payments *payments) {
     printf("payments %" PRIu64 ", accounts %" PRIu64, payments->count, payments->sum_of_accounts);
     printf(", bank codes %" PRIu64 ", cents %" PRIu64 "\n", payments->sum_of_bank_codes,
            payments->sum_of_cents);
+    return fflush(stdout) == 0 && !ferror(stdout);
 }
 
 // Answers the request with what the library told: nothing is written before it has accepted the
@@ -82,8 +84,7 @@ static int answer(const struct request *request, const struct payments *payments
     if (!write_output(request->output, request->rows, request->file_number, payments)) {
         return failed(request->output);
     }
-    print_figures(payments);
-    return DONE;
+    return print_figures(payments) ? DONE : failed("standard output");
 }
 
 int main(int count, char **words) {

@@ -44,9 +44,16 @@ static bool finish(FILE *stream) {
     return done;
 }
 
+// The temporary file is its owner's alone: it gets the mode of any new file.
+static bool give_mode(int descriptor) {
+    mode_t kept_back = umask(0);
+    umask(kept_back);
+    return fchmod(descriptor, 0666 & ~kept_back) == 0;
+}
+
 static bool write_stream(int descriptor, write_rows *rows, uint64_t file_number,
                          const struct payments *payments) {
-    FILE *stream = fdopen(descriptor, "wb");
+    FILE *stream = give_mode(descriptor) ? fdopen(descriptor, "wb") : NULL;
     if (stream == NULL) {
         close(descriptor);
         return false;

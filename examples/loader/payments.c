@@ -1,6 +1,7 @@
 // Lends columns to the library, and keeps what it tells: this is the one call that a loader needs.
 #include "payments.h"
 
+#include <errno.h>
 #include <stdlib.h>
 
 #include "dtaus.h"
@@ -55,8 +56,10 @@ bool load_payments(const struct input *file, struct payments *payments) {
 }
 
 void release_payments(struct payments *payments) {
+    int reason = errno;
     free(payments->bank_codes);
     free(payments->accounts);
     free(payments->cents);
     free(payments->starts);
+    errno = reason;
 }

@@ -23,9 +23,11 @@ struct payments {
     uint64_t *starts;
 };
 
-// False where there is no memory for the columns; then there is nothing to release.
+// False where there is no memory for the columns; errno then says so, and there is nothing to
+// release.
 bool load_payments(const struct input *file, struct payments *payments);
 
+// Leaves errno as it is.
 void release_payments(struct payments *payments);
 
 #endif

@@ -16,7 +16,9 @@ void read_bytes(struct bytes *bytes, const char *path) {
     FILE *stream = fopen(path, "rb");
     need(stream != NULL, path);
     bytes->length = fread(bytes->at, 1, MOST_BYTES, stream);
-    fclose(stream);
+    // At the end, and not at a fault or where the room ends.
+    need(fgetc(stream) == EOF && !ferror(stream), path);
+    need(fclose(stream) == 0, path);
 }
 
 void append(struct bytes *bytes, const void *more, size_t length) {

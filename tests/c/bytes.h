@@ -13,7 +13,7 @@ struct bytes {
     uint8_t at[MOST_BYTES];
 };
 
-// The bytes of a file of the file system.
+// The bytes of a file of the file system. Ends the program where it cannot be read or has more.
 void read_bytes(struct bytes *bytes, const char *path);
 
 // Puts bytes at the end.

@@ -4,7 +4,10 @@
 // A second time, as it happens in a program of many headers.
 #include "dtaus.h"
 
-const void *const functions[] = {
+// Without this a compiler may leave a constant out that nothing here reads, and the names with it.
+extern const void *const functions[6];
+
+const void *const functions[6] = {
     reinterpret_cast<const void *>(dtaus_check), reinterpret_cast<const void *>(dtaus_load),
     reinterpret_cast<const void *>(dtaus_list),  reinterpret_cast<const void *>(dtaus_compose),
     reinterpret_cast<const void *>(dtaus_find),  reinterpret_cast<const void *>(dtaus_text),

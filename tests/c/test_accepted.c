@@ -1,6 +1,7 @@
 // Tests of accepted files: what each call gives is what the file's bytes say.
 #include <string.h>
 
+#include "answers.h"
 #include "calls.h"
 #include "dtaus.h"
 #include "harness.h"
@@ -35,12 +36,7 @@ static void test_check_and_load(const char *name, const struct bytes *file) {
     struct call load = roomy(LOAD, file);
     struct answer loaded = make(&load);
     expect_totals(&loaded, &payments);
-    for (size_t i = 0; i < payments.count; i++) {
-        expect_equal(loaded.columns[0][i], payments.row[i].bank_code, "a bank code");
-        expect_equal(loaded.columns[1][i], payments.row[i].account, "an account");
-        expect_equal(loaded.columns[2][i], payments.row[i].cents, "an amount in cents");
-        expect_equal(loaded.columns[3][i], payments.row[i].start, "the start of a payment");
-    }
+    expect_columns(&loaded, &payments);
 }
 
 // Expects that find gives the start of each payment, and the end of the file.
@@ -82,7 +78,7 @@ static void test_texts(const char *name, const struct bytes *file) {
     }
 }
 
-// Lists the file, and composes it from the listing.
+// Lists the file, also into no more room than the listing takes, and composes it from the listing.
 static void test_there_and_back(const char *name, const struct bytes *file) {
     begin("list and compose, %s", name);
     struct call list = roomy(LIST, file);
@@ -95,11 +91,12 @@ static void test_there_and_back(const char *name, const struct bytes *file) {
     static struct bytes listing;
     listing.length = 0;
     append(&listing, listed.output, listed.figures[2]);
+    list.lent[0] = listing.length;
+    struct answer fitted = make(&list);
+    expect_output(&fitted, &listing);
     struct call compose = roomy(COMPOSE, &listing);
     struct answer composed = make(&compose);
-    expect_equal(composed.number, DTAUS_ACCEPTED, "the number of composing");
-    expect_equal(composed.figures[2], file->length, "the length of the file");
-    expect(memcmp(composed.output, file->at, file->length) == 0, "the bytes of the file");
+    expect_output(&composed, file);
 }
 
 // The figures that the requirements print of case M.
@@ -141,15 +138,11 @@ static void test_printed_listing(const struct samples *samples) {
     begin("list gives the listing of case M");
     struct call list = roomy(LIST, &samples->m);
     struct answer listed = make(&list);
-    expect_equal(listed.number, DTAUS_ACCEPTED, "the number");
-    expect_equal(listed.figures[2], samples->listing.length, "the length");
-    expect(memcmp(listed.output, samples->listing.at, samples->listing.length) == 0, "the bytes");
+    expect_output(&listed, &samples->listing);
     begin("compose gives the file of case M");
     struct call compose = roomy(COMPOSE, &samples->listing);
     struct answer composed = make(&compose);
-    expect_equal(composed.number, DTAUS_ACCEPTED, "the number");
-    expect_equal(composed.figures[2], samples->m.length, "the length");
-    expect(memcmp(composed.output, samples->m.at, samples->m.length) == 0, "the bytes");
+    expect_output(&composed, &samples->m);
 }
 
 void test_accepted(const struct samples *samples) {

@@ -1,4 +1,7 @@
 // Tests of columns, outputs and results that are too short, and of those that are just long enough.
+#include <stddef.h>
+
+#include "answers.h"
 #include "calls.h"
 #include "dtaus.h"
 #include "harness.h"
@@ -13,10 +16,20 @@ static struct call fitting(enum function function, const struct bytes *input, si
     return call;
 }
 
-static void test_just_enough(enum function function, const struct bytes *input, size_t entries) {
+// What is written is what is written where there is more room: load's payments, and the output.
+static void test_just_enough(enum function function, const struct bytes *input, size_t entries,
+                             const struct bytes *output) {
     begin("%s, %zu bytes, just enough room", name_of(function), input->length);
     struct call call = fitting(function, input, entries);
-    expect_equal(make(&call).number, DTAUS_ACCEPTED, "the number");
+    struct answer answer = make(&call);
+    expect_equal(answer.number, DTAUS_ACCEPTED, "the number");
+    if (function == LOAD) {
+        struct payments payments;
+        read_payments(&payments, input);
+        expect_columns(&answer, &payments);
+    }
+    if (output != NULL)
+        expect_output(&answer, output);
 }
 
 // One slice alone is too short, by one entry and by all.
@@ -52,16 +65,17 @@ void test_room(const struct samples *samples) {
     const struct {
         enum function function;
         const struct bytes *input;
-        size_t entries; // that it writes into each slice
-    } calls[] = {{CHECK, &samples->m, 0},
-                 {LOAD, &samples->m, 1},
-                 {LOAD, &samples->four, 4},
-                 {LIST, &samples->m, samples->listing.length},
-                 {COMPOSE, &samples->listing, samples->m.length},
-                 {FIND, &samples->m, 0},
-                 {TEXT, &samples->m, 0}};
+        size_t entries;             // that it writes into each slice
+        const struct bytes *output; // where it has one
+    } calls[] = {{CHECK, &samples->m, 0, NULL},
+                 {LOAD, &samples->m, 1, NULL},
+                 {LOAD, &samples->four, 4, NULL},
+                 {LIST, &samples->m, samples->listing.length, &samples->listing},
+                 {COMPOSE, &samples->listing, samples->m.length, &samples->m},
+                 {FIND, &samples->m, 0, NULL},
+                 {TEXT, &samples->m, 0, NULL}};
     for (size_t i = 0; i < sizeof calls / sizeof calls[0]; i++) {
-        test_just_enough(calls[i].function, calls[i].input, calls[i].entries);
+        test_just_enough(calls[i].function, calls[i].input, calls[i].entries, calls[i].output);
         test_too_short(calls[i].function, calls[i].input, calls[i].entries);
         test_short_result(calls[i].function, calls[i].input);
     }

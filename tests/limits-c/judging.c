@@ -1,4 +1,5 @@
 // Calls of the library and the verdicts on them: one line for each, with its time, and their count.
+#define _POSIX_C_SOURCE 200809L
 #include "judging.h"
 
 #include "dtaus.h"

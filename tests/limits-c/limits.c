@@ -94,6 +94,13 @@ static struct columns lend_columns(void) {
     return columns;
 }
 
+static void free_columns(struct columns *columns) {
+    free(columns->bank_codes);
+    free(columns->accounts);
+    free(columns->cents);
+    free(columns->starts);
+}
+
 int main(int argc, char **argv) {
     if (argc != 3) {
         fprintf(stderr, "usage: limits FOLDER SAMPLE\n");
@@ -105,5 +112,7 @@ int main(int argc, char **argv) {
     test_cents(&file);
     test_count(&file, &columns);
     test_count_and_cents(&file);
+    close_file(&file);
+    free_columns(&columns);
     return all_passed() ? 0 : 1;
 }

@@ -1,7 +1,9 @@
 // Writes files of many payments. What stands in them is case M but for C4, C5 and C12, and for E's
 // figures.
+#define _POSIX_C_SOURCE 200809L
 #include "writing.h"
 
+#include <errno.h>
 #include <stdio.h>
 #include <stdlib.h>
 #include <string.h>
@@ -32,6 +34,10 @@ static void write_at(const struct written_file *file, const uint8_t *bytes, size
                      uint64_t place) {
     while (length > 0) {
         ssize_t moved = pwrite(file->descriptor, bytes, length, (off_t)place);
+        if (moved < 0 && errno == EINTR)
+            continue;
+        if (moved == 0)
+            errno = ENOSPC; // no reason is told where nothing was taken
         if (moved <= 0)
             give_up("writing a file of payments");
         bytes += moved;
@@ -48,7 +54,8 @@ static void read_case_m(struct written_file *file, const char *sample) {
     FILE *from = fopen(sample, "rb");
     if (from == NULL || fread(file->case_m, sizeof file->case_m, 1, from) != 1)
         give_up(sample);
-    fclose(from);
+    if (fclose(from) != 0)
+        give_up(sample);
 }
 
 void create_file(struct written_file *file, const char *folder, const char *sample) {
@@ -58,6 +65,11 @@ void create_file(struct written_file *file, const char *folder, const char *samp
     file->descriptor = mkstemp(path);
     if (file->descriptor < 0 || unlink(path) != 0)
         give_up(path);
+}
+
+void close_file(const struct written_file *file) {
+    if (close(file->descriptor) != 0)
+        give_up("closing a file of payments");
 }
 
 void start_over(struct written_file *file) {
@@ -114,5 +126,6 @@ const uint8_t *map_file(const struct written_file *file) {
 }
 
 void unmap_file(const struct written_file *file, const uint8_t *bytes) {
-    munmap((void *)bytes, length_of(file));
+    if (munmap((void *)bytes, length_of(file)) != 0)
+        give_up("unmapping a file of payments");
 }

@@ -25,9 +25,10 @@ struct written_file {
     uint64_t cents;
 };
 
-// Creates a file in the folder. It has no name there: it is gone when the program ends, however it
-// ends.
+// Creates a file in the folder. It has no name there: it is gone when it is closed, or when the
+// program ends, however it ends.
 void create_file(struct written_file *file, const char *folder, const char *sample);
+void close_file(const struct written_file *file);
 
 // Leaves nothing but A in the file.
 void start_over(struct written_file *file);
