@@ -7,7 +7,7 @@ use mathlib.Core.Logic.{_≢_}
 use mathlib.Core.List.{List, [], _∷_}
 use lib.ListN.{length, take, drop}
 use lib.Dec.{leb}
-use borrow.Author.Tests.{le-leb, lt-leb, ne-eqb}
+use borrow.Author.Tests.{le-leb, ne-eqb}
 use Rattle.rules.specs.Answer.{answer, outcome, Outcome, filled}
 use Rattle.listing.specs.Composing.{compose}
 use Rattle.listing.specs.Endings.{Ending, writes, refuses, listed, composed, within, bytesOf}
@@ -20,8 +20,8 @@ use Rattle.spots.specs.declared.Spot.{Spot}
 use Rattle.spots.specs.Spots.{findAt, locateAt}
 use Rattle.dtaus.specs.Figures.{outcomeFigures, writtenFigures, spotFigures, told}
 use Rattle.dtaus.specs.Calls.{textNamed, checking, loadingWith, rowsOf, ifTold, listingWith, composingWith, ifPlaced, findingWith, locatingWith}
-use Rattle.dtaus.proofs.TellingLaws.{not-told, all-told}
-use Rattle.dtaus.proofs.CallLaws.{SaysOutcome, SaysWritten, SaysSpot, SaysLoaded}
+use Rattle.dtaus.proofs.TellingLaws.{all-told}
+use Rattle.dtaus.proofs.CallLaws.{SaysOutcome, SaysWritten, SaysSpot, SaysLoaded, check-short, load-short, list-short, compose-short, find-short, text-short}
 
 -- ---- one answer
 
@@ -71,9 +71,7 @@ module _ (result : List ℕ) (r : ℕ) (new : List ℕ) where
   module _ (file : List ℕ) (says : SaysOutcome (checking result file) result r new) where
     -- a result without room
     pub check-no-room : length result < 6 → (r ≡ 16) × (new ≡ result)
-    unfolding checking
-    check-no-room h =
-        (says .0 ∙ ap (λ b. ifRoom b (outcome (answer file)) .number) (lt-leb 6 (length result) h), says .1 ∙ sym (not-told _ result h))
+    check-no-room h = one-outcome _ result r 16 new result says (check-short result file h)
 
     -- any other gets the figures of the answer to the file
     pub check-is : 6 ≤ length result → let o = outcome (answer file) in (r ≡ o .number) × Begins (outcomeFigures o) result new
@@ -85,9 +83,6 @@ module _ (result : List ℕ) (r : ℕ) (new : List ℕ) where
   -- ---- a stretch of the file
 
   module _ (s : Spot) where
-    placed-no-room : length result < 4 → SaysSpot (ifPlaced (leb 4 (length result)) s) result r new → (r ≡ 16) × (new ≡ result)
-    placed-no-room h says = (says .0 ∙ ap (λ b. ifPlaced b s .number) (lt-leb 4 (length result) h), says .1 ∙ sym (not-told _ result h))
-
     placed-is : 4 ≤ length result → SaysSpot (ifPlaced (leb 4 (length result)) s) result r new → (r ≡ s .number) × Begins (spotFigures s) result new
     placed-is h says =
         let e = ap (λ b. ifPlaced b s) (le-leb 4 (length result) h) in
@@ -95,8 +90,7 @@ module _ (result : List ℕ) (r : ℕ) (new : List ℕ) where
 
   module _ (file : List ℕ) (n : ℕ) (says : SaysSpot (findingWith result file n) result r new) where
     pub find-no-room : length result < 4 → (r ≡ 16) × (new ≡ result)
-    unfolding findingWith
-    find-no-room h = placed-no-room (findAt file n) h says
+    find-no-room h = one-spot _ result r 16 new result says (find-short result file n h)
 
     -- the figures are those of `spots::find`
     pub find-is : 4 ≤ length result → (r ≡ findAt file n .number) × Begins (spotFigures (findAt file n)) result new
@@ -105,8 +99,7 @@ module _ (result : List ℕ) (r : ℕ) (new : List ℕ) where
 
   module _ (file : List ℕ) (start wanted : ℕ) (says : SaysSpot (locatingWith result file start wanted) result r new) where
     pub text-no-room : length result < 4 → (r ≡ 16) × (new ≡ result)
-    unfolding locatingWith
-    text-no-room h = placed-no-room (locateAt file start (textNamed wanted)) h says
+    text-no-room h = one-spot _ result r 16 new result says (text-short result file start wanted h)
 
     -- the figures are those of `spots::locate`
     pub text-is : 4 ≤ length result → let s = locateAt file start (textNamed wanted) in (r ≡ s .number) × Begins (spotFigures s) result new
@@ -125,14 +118,6 @@ module _ (result : List ℕ) (r : ℕ) (new : List ℕ) where
         by (refuses m p) i = says .1 .0 ∙ ap (λ y. filled (bytesOf y) output) i
 
     module _ (e : Ending) where
-      written-no-room : length result < 3 → SaysWritten (ifTold (leb 3 (length result)) e) output result r bytes new
-          → (r ≡ 16) × ((bytes ≡ output) × (new ≡ result))
-      written-no-room h says =
-          let i = ap (λ b. ifTold b e) (lt-leb 3 (length result) h) in (
-            says .0 ∙ ap (λ y. writtenOf y .number) i,
-            (says .1 .0 ∙ ap (λ y. filled (bytesOf y) output) i, says .1 .1 ∙ ap (λ y. told (writtenFigures (writtenOf y)) result) i ∙ sym (not-told _ result h)),
-          )
-
       written-is : 3 ≤ length result → SaysWritten (ifTold (leb 3 (length result)) e) output result r bytes new
           → (r ≡ writtenOf e .number) × ((bytes ≡ filled (bytesOf e) output) × Begins (writtenFigures (writtenOf e)) result new)
       written-is h says =
@@ -146,8 +131,7 @@ module _ (result : List ℕ) (r : ℕ) (new : List ℕ) where
 
     module _ (file : List ℕ) (says : SaysWritten (listingWith (length output) result file) output result r bytes new) where
       pub list-no-room : length result < 3 → (r ≡ 16) × ((bytes ≡ output) × (new ≡ result))
-      unfolding listingWith
-      list-no-room h = written-no-room (within (length output) (listed (answer file))) h says
+      list-no-room h = one-written (listingWith (length output) result file) output result r 16 bytes output new result says (list-short result file output h)
 
       -- the statement is that of `lister::list`
       pub list-is : 3 ≤ length result → let w = writtenOf (within (length output) (listed (answer file))) in
@@ -157,8 +141,7 @@ module _ (result : List ℕ) (r : ℕ) (new : List ℕ) where
 
     module _ (lines : List ℕ) (says : SaysWritten (composingWith (length output) result lines) output result r bytes new) where
       pub compose-no-room : length result < 3 → (r ≡ 16) × ((bytes ≡ output) × (new ≡ result))
-      unfolding composingWith
-      compose-no-room h = written-no-room (within (length output) (composed (compose lines))) h says
+      compose-no-room h = one-written (composingWith (length output) result lines) output result r 16 bytes output new result says (compose-short result lines output h)
 
       -- the statement is that of `composer::compose`
       pub compose-is : 3 ≤ length result → let w = writtenOf (within (length output) (composed (compose lines))) in
@@ -183,12 +166,9 @@ module _ (result : List ℕ) (r : ℕ) (new : List ℕ) where
           ),
         )
 
-    pub load-no-room : length result < 6 → (r ≡ 16) × (new ≡ result)
-    unfolding loadingWith
-    load-no-room h = (
-      says .0 ∙ ap (λ b. ifRoom b (loading lent (answer file)) .number) (lt-leb 6 (length result) h),
-      says .1 .1 .1 .1 .1 ∙ sym (not-told _ result h),
-    )
+    pub load-no-room : length result < 6 → (r ≡ 16) × ((c4′ ≡ c4) × ((c5′ ≡ c5) × ((c12′ ≡ c12) × ((start′ ≡ start) × (new ≡ result)))))
+    load-no-room h =
+        one-loaded file c4 c5 c12 start result r 16 c4′ c5′ c12′ start′ new c4 c5 c12 start result says (load-short result file c4 c5 c12 start h)
 
     -- the statement is that of `columns::load`
     pub load-is : 6 ≤ length result → let o = loading lent (answer file) in
