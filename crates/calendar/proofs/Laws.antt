@@ -1,8 +1,8 @@
 -- Days counted are few: at most 366 a year and 31 a month, so that the sums of the code cannot wrap.
 use Prim.Native.Nat.{ℕ, zero, suc, _+_, _-_, _*_, _≤_}
 use native.Mathlib.Omega.{arith}
-use Rattle.rules.specs.Calendar.{Day, yearsDays, monthsDays, dayNumber}
-use Rattle.rules.proofs.CalendarLaws.{month-most}
+use Rattle.document.specs.Calendar.{Day, yearsDays, monthsDays, dayNumber}
+use Rattle.document.proofs.CalendarLaws.{month-most}
 
 pub years-most : (y : ℕ) → yearsDays y ≤ 366 * y
 unfolding yearsDays

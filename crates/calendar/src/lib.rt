@@ -3,7 +3,7 @@ ghost use mathlib.Core.Path.{_≡_};
 ghost use mathlib.Core.Bool.{_&&_};
 ghost use lib.Dec.{leb};
 ghost use Prim.Native.Nat.{_-_, _%_, _^_};
-ghost use Rattle.rules.specs.Calendar.{leap, monthDays, isDay, yearsDays, monthsDays, dayNumber, inSpan, century, ofDDMMYY, ofDDMMYYYY};
+ghost use Rattle.document.specs.Calendar.{leap, monthDays, isDay, yearsDays, monthsDays, dayNumber, inSpan, century, ofDDMMYY, ofDDMMYYYY};
 ghost use Rattle.calendar.specs.Days.{dayOf};
 
 // A day as the code holds it: narrow numbers, so that counting its days cannot wrap.

@@ -7,12 +7,12 @@ use mathlib.Core.Option.{none, some}
 use lib.ListN.{take}
 use Rattle.form.specs.Kind.{blanks}
 use Rattle.form.specs.Reader.{Reason, short, not-fixed, not-digit, not-sign, breaks, surplus, Refusal, Answer, refused}
-use Rattle.rules.specs.Signs.{ascii}
-use Rattle.rules.specs.Values.{Document}
-use Rattle.rules.specs.Writing.{inTurn}
-use Rattle.rules.specs.Fields.{Name, A1, A2, A3, A4, A5, A6, A7, A8, A9, A10, A11a, A11b, A11c, A12, C1-or-E1, C2, C3, C4, C5, C6, C7a, C7b, C8, C9, C10, C11, C12, C13, C14a, C14b, C15, C16, C17a, C17b, C18, mark, words, closing, E2, E3, E4, E5, E6, E7, E8, E9}
-use Rattle.rules.specs.Answer.{answer}
-use Rattle.rules.specs.Cases.{padded, headerM, paymentM, endM, fileM, put, given}
+use Rattle.document.specs.Signs.{ascii}
+use Rattle.document.specs.Values.{Document}
+use Rattle.diskette.specs.Writing.{inTurn}
+use Rattle.diskette.specs.Fields.{Name, A1, A2, A3, A4, A5, A6, A7, A8, A9, A10, A11a, A11b, A11c, A12, C1-or-E1, C2, C3, C4, C5, C6, C7a, C7b, C8, C9, C10, C11, C12, C13, C14a, C14b, C15, C16, C17a, C17b, C18, mark, words, closing, E2, E3, E4, E5, E6, E7, E8, E9}
+use Rattle.diskette.specs.Answer.{answer}
+use Rattle.diskette.specs.Cases.{padded, headerM, paymentM, endM, fileM, put, given}
 use Rattle.cases.specs.Others.{times, purpose}
 
 pub record Damage : Type 0 where

@@ -5,9 +5,9 @@ use mathlib.Core.Path.{_≡_, refl}
 use mathlib.Core.List.{List, [], _∷_, _++_, map}
 use lib.ListN.{take}
 use Rattle.form.specs.Kind.{blanks}
-use Rattle.rules.specs.Signs.{ascii}
-use Rattle.rules.specs.Writing.{inTurn}
-use Rattle.rules.specs.Cases.{padded, headerM, paymentM, endM, fileM, put, Case, given, wanted}
+use Rattle.document.specs.Signs.{ascii}
+use Rattle.diskette.specs.Writing.{inTurn}
+use Rattle.diskette.specs.Cases.{padded, headerM, paymentM, endM, fileM, put, Case, given, wanted}
 
 abbrev pub times : ℕ → List ℕ → List ℕ
 times zero bs = []

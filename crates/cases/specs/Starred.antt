@@ -2,8 +2,8 @@
 use mathlib.Core.Path.{_≡_, refl}
 use mathlib.Core.List.{List, [], _∷_, _++_, map}
 use lib.ListN.{take}
-use Rattle.rules.specs.Signs.{ascii}
-use Rattle.rules.specs.Cases.{headerM, endM, fileM, put, Case, given, wanted}
+use Rattle.document.specs.Signs.{ascii}
+use Rattle.diskette.specs.Cases.{headerM, endM, fileM, put, Case, given, wanted}
 
 unfoldable pub starred : List Case
 starred =

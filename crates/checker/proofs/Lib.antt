@@ -1,3 +1,4 @@
 pub mod Laws
 pub mod TurnLaws
-pub mod Answers
+pub mod CheckLaws
+pub mod Promises

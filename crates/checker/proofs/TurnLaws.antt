@@ -3,21 +3,20 @@ use Prim.Native.Nat.{ℕ, suc, _+_, _-_, _≤_, _<_}
 use native.Mathlib.Omega.{arith}
 use mathlib.Core.Path.{_≡_, sym, ap, _∙_, subst}
 use mathlib.Core.List.{List}
-use lib.ListN.{length}
 use Rattle.form.specs.Kind.{digits}
 use Rattle.form.specs.Form.{_>>=_}
 use Rattle.form.specs.Reader.{has}
 use Rattle.form.specs.Place.{fieldAt, done, readAt}
-use Rattle.rules.specs.Values.{noTotals}
-use Rattle.rules.specs.Values as values
-use Rattle.rules.specs.Rules.{mostPayments}
-use Rattle.rules.specs.Fields.{header, payment, end, firstField, payments, behindHeader}
+use Rattle.document.specs.Values.{noTotals}
+use Rattle.document.specs.Values as values
+use Rattle.document.specs.Rules.{mostPayments}
+use Rattle.diskette.specs.Fields.{header, payment, end, firstField, payments, behindHeader}
 use Rattle.fields.specs.declared.Refusal.{Refusal}
 use Rattle.fields.specs.declared.FileKind.{FileKind}
 use Rattle.fields.specs.Answers.{ofRead, kindOf, lettersOf}
 use Rattle.fields.proofs.WalkLaws.{Fails, Walk, past-part, stopped-part}
 use Rattle.sums.specs.declared.Sums.{Sums}
-use Rattle.sums.specs.Sums.{totalsOf}
+use Rattle.sums.specs.Sums.{sumsOf, totalsOf}
 use Rattle.header.specs.declared.Header.{Header}
 use Rattle.header.specs.declared.HeaderRead.{HeaderRead}
 use Rattle.header.specs.declared.HeaderRead.the-variants as headed
@@ -27,40 +26,41 @@ use Rattle.payment.specs.declared.PaymentRead.{PaymentRead}
 use Rattle.payment.specs.declared.PaymentRead.the-variants as paid
 use Rattle.payment.specs.Adding.{paymentsOn, paymentWhy}
 use Rattle.payment.proofs.Laws.{payments-told, payment-is}
-use Rattle.checker.specs.declared.Checked.{Checked}
-use Rattle.checker.specs.Checking.{sumsOf, refusedWith, restOn}
+use Rattle.checker.specs.declared.FileRead.{FileRead}
+use Rattle.checker.specs.declared.FileRead.the-variants as file
+use Rattle.checker.specs.Checking.{restOn}
 use Rattle.checker.proofs.Laws.{owed, from-the-start, behind-header, may-begin, first-fails, first-end, behindPayment, first-payment, payment-more}
 
--- so many payments were read, which come to these sums; the rest of the file stands at p
-pub record Turn (f : List ℕ) (kind : FileKind) (count : ℕ) (sums : Sums) (p : ℕ) : Type 0 where
+-- of the file that begins at `begin` so many payments were read, which come to these sums; its rest stands at p
+pub record Turn (f : List ℕ) (begin : ℕ) (kind : FileKind) (count : ℕ) (sums : Sums) (p : ℕ) : Type 0 where
   pub most : count ≤ mostPayments
-  pub rest : Walk (restOn (length f) (totalsOf count sums)) f (owed f) (payments (mostPayments - count) (lettersOf kind) (totalsOf count sums)) p
+  pub rest : Walk (restOn (totalsOf count sums)) f (owed f begin) (payments (mostPayments - count) (lettersOf kind) (totalsOf count sums)) p
 
 -- A refuses the file
-pub header-refuses : (f : List ℕ) {a : HeaderRead} {x r : Refusal} → a ≡ ofRead headers (readAt header f 0) → a ≡ headed.Refused x → r ≡ headerWhy a → refusedWith r ≡ owed f
-header-refuses f told given e = stopped-part header behindHeader (from-the-start f) headers-told told given e
+pub header-refuses : (f : List ℕ) (begin : ℕ) {a : HeaderRead} {x r : Refusal} → a ≡ ofRead headers (readAt header f begin) → a ≡ headed.Refused x → r ≡ headerWhy a → file.Refused r ≡ owed f begin
+header-refuses f begin told given e = stopped-part header behindHeader (from-the-start f begin) headers-told told given e
 
 -- A has been read
-pub turn-first : (f : List ℕ) {a : HeaderRead} → a ≡ ofRead headers (readAt header f 0) → {h : Header} {q : ℕ} → a ≡ headed.Is h q → Turn f (h .kind) 0 (sumsOf noTotals) q
-turn-first f told {h} {q} given =
-    let x = header-is (readAt header f 0) told given in
-    subst (λ (k : FileKind). Turn f k 0 (sumsOf noTotals) q) (ap (λ (y : Header). y .kind) (sym x.2)) (begun x.0 x.1)
+pub turn-first : (f : List ℕ) (begin : ℕ) {a : HeaderRead} → a ≡ ofRead headers (readAt header f begin) → {h : Header} {q : ℕ} → a ≡ headed.Is h q → Turn f begin (h .kind) 0 (sumsOf noTotals) q
+turn-first f begin told {h} {q} given =
+    let x = header-is (readAt header f begin) told given in
+    subst (λ (k : FileKind). Turn f begin k 0 (sumsOf noTotals) q) (ap (λ (y : Header). y .kind) (sym x.2)) (begun x.0 x.1)
   where
-    begun : (v : values.Header) → readAt header f 0 ≡ done v q → Turn f (kindOf (v .fileKind)) 0 (sumsOf noTotals) q
+    begun : (v : values.Header) → readAt header f begin ≡ done v q → Turn f begin (kindOf (v .fileKind)) 0 (sumsOf noTotals) q
     begun v e =
         record {
           most = omega arith;
-          rest = rw (header-letters f 0 q v e) (behind-header f v (past-part header behindHeader (from-the-start f) e));
+          rest = rw (header-letters f begin q v e) (behind-header f v (past-part header behindHeader (from-the-start f begin) e));
         }
 
-module _ {f : List ℕ} {kind : FileKind} {count : ℕ} {sums : Sums} {p : ℕ} (turn : Turn f kind count sums p) where
+module _ {f : List ℕ} {begin : ℕ} {kind : FileKind} {count : ℕ} {sums : Sums} {p : ℕ} (turn : Turn f begin kind count sums p) where
   -- the first field refuses the file
-  pub turn-fails : {r : Refusal} → Fails (fieldAt (digits 4) (firstField (totalsOf count sums)) f p) p r → refusedWith r ≡ owed f
+  pub turn-fails : {r : Refusal} → Fails (fieldAt (digits 4) (firstField (totalsOf count sums)) f p) p r → file.Refused r ≡ owed f begin
   turn-fails x = first-fails (lettersOf kind) (totalsOf count sums) (mostPayments - count) (turn .rest) x
 
   module _ {l q : ℕ} (s : (fieldAt (digits 4) (firstField (totalsOf count sums)) f p ≡ has l) × (q ≡ p + 4)) where
     -- E comes
-    pub turn-ends : l ≡ 128 → {r : Checked} → r ≡ ofRead (restOn (length f) (totalsOf count sums)) (readAt (end (totalsOf count sums)) f q) → r ≡ owed f
+    pub turn-ends : l ≡ 128 → {r : FileRead} → r ≡ ofRead (restOn (totalsOf count sums)) (readAt (end (totalsOf count sums)) f q) → r ≡ owed f begin
     turn-ends e told = told ∙ sym (first-end (lettersOf kind) (totalsOf count sums) s (mostPayments - count) (turn .rest) e .owed)
 
     module _ (n : l ≡ 128 → ⊥) where
@@ -68,7 +68,7 @@ module _ {f : List ℕ} {kind : FileKind} {count : ℕ} {sums : Sums} {p : ℕ} 
       pub one-more : count < mostPayments
       one-more = may-begin (totalsOf count sums) f p l s.0 n
 
-      comes : Walk (restOn (length f) (totalsOf count sums)) f (owed f)
+      comes : Walk (restOn (totalsOf count sums)) f (owed f begin)
           (payment (lettersOf kind) (totalsOf count sums) l >>= behindPayment (lettersOf kind) (totalsOf count sums) (mostPayments - (count + 1))) q
       comes =
           let h = one-more in
@@ -77,14 +77,14 @@ module _ {f : List ℕ} {kind : FileKind} {count : ℕ} {sums : Sums} {p : ℕ} 
 
       -- it refuses the file
       pub payment-refuses : {a : PaymentRead} {x r : Refusal} → a ≡ ofRead (paymentsOn sums) (readAt (payment (lettersOf kind) (totalsOf count sums) l) f q)
-          → a ≡ paid.Refused x → r ≡ paymentWhy a → refusedWith r ≡ owed f
+          → a ≡ paid.Refused x → r ≡ paymentWhy a → file.Refused r ≡ owed f begin
       payment-refuses told given e =
           stopped-part (payment (lettersOf kind) (totalsOf count sums) l) (behindPayment (lettersOf kind) (totalsOf count sums) (mostPayments - (count + 1))) comes
           (payments-told sums) told given e
 
       -- it has been read
       pub turn-more : {a : PaymentRead} → a ≡ ofRead (paymentsOn sums) (readAt (payment (lettersOf kind) (totalsOf count sums) l) f q)
-          → {new : Sums} {next : ℕ} → a ≡ paid.Is new next → Turn f kind (count + 1) new next
+          → {new : Sums} {next : ℕ} → a ≡ paid.Is new next → Turn f begin kind (count + 1) new next
       turn-more told {new} {next} given =
           let x = payment-is sums (readAt (payment (lettersOf kind) (totalsOf count sums) l) f q) told given in
           let w = past-part (payment (lettersOf kind) (totalsOf count sums) l) (behindPayment (lettersOf kind) (totalsOf count sums) (mostPayments - (count + 1))) comes x.1 in

@@ -13,8 +13,10 @@ use lib.Seq.{drop-cons, getD-take, getD-drop, length-take-le}
 use borrow.Author.Tests.{eqb-true, eqb-false, eq-eqb, ne-eqb}
 use Rattle.fields.proofs.StretchLaws.{and-true}
 use Rattle.listing.specs.Lines.{tab, split, endsInBlank, lineEnd, onto}
-use Rattle.pen.specs.Walking.{letterOf, reach}
-use Rattle.pen.proofs.ReachLaws.{reach-le, pieces-more, pieces-last, reach-here, reach-on, reach-end}
+use Rattle.layout.specs.Lines as line
+use Rattle.layout.specs.Cells.{letterOf}
+use Rattle.line_reader.specs.Reaching.{reach}
+use Rattle.line_reader.proofs.ReachLaws.{reach-le, pieces-more, pieces-last, reach-here, reach-on, reach-end}
 use Rattle.composer.proofs.WalkLaws.{begins, at-begun}
 use Rattle.listing.proofs.LineLaws.{Some, some, split-some}
 
@@ -69,7 +71,7 @@ pub refuted : (b : Bool) → (b ≡ true → ⊥) → false ≡ b
 refuted true h = absurd (h refl)
 refuted false h = refl
 
-pub begins-short : (head : Bool) (x : List ℕ) → length x < 2 → false ≡ begins head x
+pub begins-short : (head : Bool) (x : List ℕ) → length x < line.first → false ≡ begins head x
 begins-short head x h = refuted (begins head x) (λ e. let i = at-begun head x e .inside in omega arith)
 
 eqb-swap : (a b : ℕ) → eqb a b ≡ eqb b a
@@ -79,7 +81,7 @@ eqb-swap a b = by (eqb a b) refl
     by true h = sym (eq-eqb b a (sym (eqb-true a b h)))
     by false h = sym (ne-eqb b a (λ k. eqb-false a b h (sym k)))
 
-pub begins-by : (head : Bool) (b : ℕ) (x : List ℕ) → letterOf head ≡ b ∷ [] → 2 ≤ length x
+pub begins-by : (head : Bool) (b : ℕ) (x : List ℕ) → letterOf head ≡ b ∷ [] → line.first ≤ length x
     → eqb (getD x 0 0) b && eqb (getD x 1 0) tab ≡ begins head x
 begins-by head b [] e h = absurd (omega arith)
 begins-by head b (y ∷ []) e h = absurd (omega arith)

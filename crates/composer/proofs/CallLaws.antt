@@ -5,19 +5,21 @@ use native.Mathlib.Omega.{arith}
 use mathlib.Core.Path.{_≡_, refl, sym, ap, ap₂, _∙_}
 use mathlib.Core.List.{List}
 use lib.ListN.{length}
-use Rattle.rules.specs.Values.{Document, totals}
-use Rattle.rules.specs.Writing.{write}
-use Rattle.rules.specs.Answer.{filled}
+use Rattle.verdict.specs.declared.Verdict.{Verdict}
+use Rattle.verdict.specs.Verdicts.{accepting, refusing}
+use Rattle.verdict.specs.Lent.{filled}
+use Rattle.document.specs.Values.{Document, totals}
+use Rattle.diskette.specs.Writing.{write}
 use Rattle.fields.specs.declared.Refusal.{Refusal}
 use Rattle.fields.proofs.AnswerLaws.{zero-one}
 use Rattle.sums.specs.declared.Sums.{Sums}
 use Rattle.sums.specs.Sums.{totalsOf}
 use Rattle.listing.specs.Composing.{Composed, made, denied, compose}
-use Rattle.listing.specs.Endings.{writes, refuses, composed, bytesOf}
-use Rattle.listing.proofs.Rounds.{composed-listing}
-use Rattle.pen.specs.declared.Written.{Written}
-use Rattle.pen.specs.Writing.{writtenOf}
-use Rattle.pen.proofs.EndingLaws.{Says, ends-refused, ends-short, ends-written}
+use Rattle.listing.specs.Endings.{writes, refuses, composed, written}
+use Rattle.listing.proofs.Promises.{composed-listing}
+use Rattle.output.specs.declared.Written.{Written}
+use Rattle.output.specs.Writing.{writtenOf}
+use Rattle.output.proofs.EndingLaws.{Says, ends-refused, ends-short, ends-written}
 use Rattle.composer.specs.declared.LinesRead.{LinesRead}
 use Rattle.composer.specs.declared.LinesRead.the-variants as lines
 use Rattle.composer.specs.Telling.{listingTold, linesWhy}
@@ -29,7 +31,7 @@ pub made-ends : {c : Composed Document} {d : Document} → c ≡ made d → comp
 unfolding composed
 made-ends i = ap composed i
 
-pub denied-ends : {c : Composed Document} {n p : ℕ} → c ≡ denied n p → composed c ≡ refuses n p
+pub denied-ends : {c : Composed Document} {v : Verdict} → c ≡ denied v → composed c ≡ refuses v
 unfolding composed
 denied-ends i = ap composed i
 
@@ -46,21 +48,21 @@ are-same e = (cc, cc, cc)
 
 module _ (l old : List ℕ) {a : LinesRead} (told : a ≡ listingTold (compose l)) where
   -- the listing is refused
-  pub call-refused : {x w : Refusal} {r : Written} → a ≡ lines.Refused x → w ≡ linesWhy a → r ≡ writtenOf (refuses (w .number) (w .place))
+  pub call-refused : {x w : Refusal} {v : Verdict} {r : Written} → a ≡ lines.Refused x → w ≡ linesWhy a → v ≡ refusing (w .number) (w .place) → r ≡ writtenOf (refuses v)
       → Says (composed (compose l)) old r old
-  call-refused {x} {w} {r} given why is = by (compose l) refl (sym told ∙ given)
+  call-refused {x} {w} {v} {r} given why judged is = by (compose l) refl (sym told ∙ given)
     where
       by : (c : Composed Document) → compose l ≡ c → listingTold c ≡ lines.Refused x → Says (composed (compose l)) old r old
       by (made d) e g = absurd (zero-one cc)
-      by (denied n p) e g =
-          ends-refused (composed (compose l)) old (denied-ends e) (is ∙ ap (λ (y : Refusal). writtenOf (refuses (y .number) (y .place))) (why ∙ ap linesWhy (given ∙ sym g)))
+      by (denied u) e g =
+          ends-refused (composed (compose l)) old (denied-ends e) (is ∙ ap (λ y. writtenOf (refuses y)) (judged ∙ ap (λ (y : Refusal). refusing (y .number) (y .place)) (why ∙ ap linesWhy (given ∙ sym g))))
 
   module _ {count size : ℕ} {sums : Sums} (given : a ≡ lines.Are count sums size) where
     pub call-told : Told l count sums size
     call-told = by (compose l) refl (sym told ∙ given)
       where
         by : (c : Composed Document) → compose l ≡ c → listingTold c ≡ lines.Are count sums size → Told l count sums size
-        by (denied n p) e g = absurd (zero-one cc)
+        by (denied u) e g = absurd (zero-one cc)
         by (made d) e g =
             let legal = composed-listing l d e .0 in
             let s = are-same g in
@@ -71,18 +73,18 @@ module _ (l old : List ℕ) {a : LinesRead} (told : a ≡ listingTold (compose l
             record { document = d; made = e; totals = ap₂ totalsOf (sym s.0) (sym s.1); length = omega arith; small = omega arith }
 
     -- the output is too short
-    pub call-short : length old < 256 + size → {r : Written} → r ≡ writtenOf (refuses 16 0) → Says (composed (compose l)) old r old
-    call-short h g = let t = call-told in let e = t .length in ends-short (composed (compose l)) old (made-ends (t .made)) (omega arith) g
+    pub call-short : length old < 256 + size → {v : Verdict} → v ≡ refusing 16 0 → {r : Written} → r ≡ writtenOf (refuses v) → Says (composed (compose l)) old r old
+    call-short h w g = let t = call-told in let e = t .length in ends-short (composed (compose l)) old (made-ends (t .made)) (omega arith) w g
 
     module _ (h : 256 + size ≤ length old) where
       pub call-ready : Ready l (totalsOf count sums) (length old)
       call-ready = let t = call-told in record { document = t .document; told = t .made; totals = t .totals; room = let e = t .length in omega arith }
 
-      pub call-written : {new : List ℕ} → new ≡ filled (bytesOf (composed (compose l))) old
-          → Says (composed (compose l)) old (record { number = 0; place = 0; length = 256 + size }) new
+      pub call-written : {new : List ℕ} → new ≡ filled (written (composed (compose l))) old
+          → Says (composed (compose l)) old (record { verdict = accepting; length = 256 + size }) new
       call-written n =
           let t = call-told in
           let e = t .length in
           let w = made-ends (t .made) in
-          ends-written (composed (compose l)) old w (omega arith) (ap (λ (m : ℕ). record { number = 0; place = 0; length = m }) e)
-          (n ∙ ap (λ x. filled (bytesOf x) old) w)
+          ends-written (composed (compose l)) old w (omega arith) (ap (λ (m : ℕ). record { verdict = accepting; length = m }) e)
+          (n ∙ ap (λ x. filled (written x) old) w)

@@ -8,22 +8,23 @@ use mathlib.Core.Bool.{true}
 use mathlib.Core.List.{List, [], _∷_, _++_, append-assoc, append-nil}
 use lib.ListN.{length, take, drop, length-append}
 use borrow.Rule.Slice.PartMut.{putMid}
-use Rattle.rules.specs.Values.{Payment, Document, Totals, totals}
-use Rattle.rules.specs.Rules.{All, Legal, LegalPayment}
-use Rattle.rules.specs.Writing.{section, writeHeader, writePayment, writePayments, writeEnd, write}
-use Rattle.rules.specs.Answer.{filled}
-use Rattle.rules.proofs.PaymentSays.{few-parts}
-use Rattle.rules.proofs.LayoutLaws.{header-length, payment-length, end-length}
+use Rattle.verdict.specs.Lent.{filled}
+use Rattle.document.specs.Marks.{mostParts}
+use Rattle.document.specs.Values.{Payment, Document, Totals, totals}
+use Rattle.document.specs.Rules.{All, Legal, LegalPayment}
+use Rattle.diskette.specs.Writing.{section, writeHeader, writePayment, writePayments, writeEnd, write}
+use Rattle.diskette.proofs.PaymentSays.{few-parts}
+use Rattle.diskette.proofs.LayoutLaws.{header-length, payment-length, end-length}
 use Rattle.listing.specs.Lines.{tab, lineEnd, split}
-use Rattle.listing.specs.Records.{recordA, lay}
+use Rattle.listing.specs.Records.{recordA, fieldsOfHeaderLine, lay}
 use Rattle.listing.specs.Composing.{composeHeader, compose}
-use Rattle.listing.specs.Endings.{composed, bytesOf}
-use Rattle.listing.proofs.Rounds.{composed-listing}
-use Rattle.pen.specs.Writing.{over}
-use Rattle.pen.specs.Walking.{reach}
-use Rattle.pen.proofs.OverLaws.{over-first, over-length, over-next}
+use Rattle.listing.specs.Endings.{composed, written}
+use Rattle.listing.proofs.Promises.{composed-listing}
+use Rattle.output.specs.Writing.{over}
+use Rattle.line_reader.specs.Reaching.{reach}
+use Rattle.output.proofs.OverLaws.{over-first, over-length, over-next}
 use Rattle.composer.specs.Telling.{FormedLine, behindLetter}
-use Rattle.composer.specs.Writing.{Writable, paymentsOf, Accepted, Ready}
+use Rattle.composer.specs.Writing.{Writable, composedPayments, AcceptedListing, Ready}
 use Rattle.composer.proofs.ToldLaws.{longest, min-is}
 use Rattle.composer.proofs.FirstLineLaws.{made-lines}
 use Rattle.composer.proofs.WritingLaws.{part-over, head-written, payments-are}
@@ -39,8 +40,8 @@ file-length d g =
     let c = ap length (append-nil (writeEnd (totals (d .payments)))) in
     omega arith
 
--- no payment is longer than 768 bytes
-pub payments-small : (kind : List ℕ) (ps : List Payment) → All (LegalPayment kind) ps → length (writePayments ps) ≤ 768 * length ps
+-- no payment is longer than one with the most parts
+pub payments-small : (kind : List ℕ) (ps : List Payment) → All (LegalPayment kind) ps → length (writePayments ps) ≤ 128 * section mostParts * length ps
 payments-small kind [] a = omega arith
 payments-small kind (p ∷ ps) a =
     let n = length-append (writePayment p) (writePayments ps) in
@@ -76,11 +77,11 @@ module _ {l : List ℕ} {t : Totals} {size : ℕ} (ready : Ready l t size) where
     pub line-within : e < length l
     line-within = let w = made-lines l d (ready .told) .within in let i = end-is in omega arith
 
-    pub head-is : FormedLine true 8 (take e l) × (lay recordA (behindLetter (split tab (take e l))) ≡ writeHeader (d .header))
+    pub head-is : FormedLine true fieldsOfHeaderLine (take e l) × (lay recordA (behindLetter (split tab (take e l))) ≡ writeHeader (d .header))
     head-is = head-written (take e l) (d .header) (ap (λ n. composeHeader (split tab (take n l))) end-is ∙ made-lines l d (ready .told) .head)
 
     -- the payments' lines stand behind it
-    pub payments-accepted : {rest : ℕ} → rest ≡ size → Accepted l (e + 1) (t .count) rest
+    pub payments-accepted : {rest : ℕ} → rest ≡ size → AcceptedListing l (e + 1) (t .count) rest
     payments-accepted same =
         record {
           document = d;
@@ -113,9 +114,9 @@ module _ {l : List ℕ} {t : Totals} (old : List ℕ) (ready : Ready l t (length
   pub first-long : length (first ++ drop 128 old) ≡ length old
   first-long = let r = room ready in let h = header-long in ap length behind-first ∙ over-length 0 header old (omega arith)
 
-  module _ {end : ℕ} {out : List ℕ} (place : end ≡ 128 + length (writePayments (paymentsOf (compose l))))
-      (holds : out ≡ over 128 (writePayments (paymentsOf (compose l))) (first ++ drop 128 old)) where
-    same-payments : writePayments (paymentsOf (compose l)) ≡ payments
+  module _ {end : ℕ} {out : List ℕ} (place : end ≡ 128 + length (writePayments (composedPayments (compose l))))
+      (holds : out ≡ over 128 (writePayments (composedPayments (compose l))) (first ++ drop 128 old)) where
+    same-payments : writePayments (composedPayments (compose l)) ≡ payments
     same-payments = ap writePayments (payments-are l (ready .told))
 
     -- behind the payments
@@ -140,11 +141,11 @@ module _ {l : List ℕ} {t : Totals} (old : List ℕ) (ready : Ready l t (length
         append-assoc header payments (writeEnd (totals (ready .document .payments)))
         ∙ ap (λ b. header ++ (payments ++ b)) (sym (append-nil (writeEnd (totals (ready .document .payments)))))
 
-    written : bytesOf (composed (compose l)) ≡ write (ready .document)
+    written-is : written (composed (compose l)) ≡ write (ready .document)
     unfolding composed
-    written = ap (λ c. bytesOf (composed c)) (ready .told)
+    written-is = ap (λ c. written (composed c)) (ready .told)
 
-    pub file-written : {last : List ℕ} → last ≡ writeEnd t → putMid end (end + 128 - end) out last ≡ filled (bytesOf (composed (compose l))) old
+    pub file-written : {last : List ℕ} → last ≡ writeEnd t → putMid end (end + 128 - end) out last ≡ filled (written (composed (compose l))) old
     file-written {last} w =
         let end-is = w ∙ ap writeEnd (ready .totals) in
         let long : length last ≡ 128 = ap length end-is ∙ end-length (totals (ready .document .payments)) in
@@ -153,4 +154,4 @@ module _ {l : List ℕ} {t : Totals} (old : List ℕ) (ready : Ready l t (length
         let o = out-long in
         part-over end 128 last out long ∙ ap₂ (λ n f. over n last f) (a ∙ sym (zero-add (length (header ++ payments)))) behind-payments
         ∙ over-next 0 (header ++ payments) last old (omega arith) ∙ over-first ((header ++ payments) ++ last) old
-        ∙ ap (λ b. filled b old) (ap (λ b. (header ++ payments) ++ b) end-is ∙ whole ∙ sym written)
+        ∙ ap (λ b. filled b old) (ap (λ b. (header ++ payments) ++ b) end-is ∙ whole ∙ sym written-is)

@@ -9,8 +9,9 @@ use mathlib.Core.Logic.{_≢_}
 use mathlib.Core.List.{List, [], _∷_}
 use lib.ListN.{length, take, drop}
 use lib.Seq.{length-take-le}
-use Rattle.rules.specs.Values.{Header, Payment, Document, Totals, noTotals, totals}
-use Rattle.rules.specs.Writing.{writePayments}
+use Rattle.verdict.specs.Verdicts.{refusing}
+use Rattle.document.specs.Values.{Header, Payment, Document, Totals, noTotals, totals}
+use Rattle.diskette.specs.Writing.{writePayments}
 use Rattle.fields.specs.declared.Refusal.{Refusal}
 use Rattle.fields.specs.declared.FileKind.{FileKind}
 use Rattle.fields.specs.declared.KindRead.{KindRead}
@@ -18,16 +19,16 @@ use Rattle.fields.specs.declared.KindRead.the-variants as kind
 use Rattle.fields.specs.Answers.{refusalOf, kindOf, lettersOf, kindWhy}
 use Rattle.fields.proofs.AnswerLaws.{zero-one}
 use Rattle.header.proofs.Laws.{letters-among}
-use Rattle.checker.specs.Checking.{sumsOf}
-use Rattle.checker.proofs.Laws.{together-none}
+use Rattle.sums.specs.Sums.{sumsOf}
+use Rattle.document.proofs.SumLaws.{together-none}
 use Rattle.listing.specs.Lines.{tab, lineEnd, split, empty}
 use Rattle.listing.specs.Composing.{Composed, made, denied, andThen, composeHeader, composePayments, composeLines, compose}
 use Rattle.listing.proofs.LineLaws.{split-some}
 use Rattle.listing.proofs.ComposingLaws.{made-or-denied, provided-made, andThen-made}
 use Rattle.listing.proofs.HeaderLaws.{header-heard}
 use Rattle.listing.proofs.LinesLaws.{lines-step}
-use Rattle.pen.specs.Walking.{reach}
-use Rattle.pen.proofs.ReachLaws.{reach-le, split-more, split-last}
+use Rattle.line_reader.specs.Reaching.{reach}
+use Rattle.line_reader.proofs.ReachLaws.{reach-le, split-more, split-last}
 use Rattle.composer.specs.declared.LinesRead.{LinesRead}
 use Rattle.composer.specs.declared.LinesRead.the-variants as lines
 use Rattle.composer.specs.Telling.{headTold, paymentsTold, listingTold}
@@ -36,7 +37,7 @@ use Rattle.composer.proofs.ReadingLaws.{owed}
 
 told-of : (h : Header) (c : Composed (List Payment)) → listingTold (andThen c (λ ps. made (record { header = h; payments = ps }))) ≡ paymentsTold noTotals 0 c
 told-of h (made ps) = ap₂ (λ (u : Totals) (n : ℕ). lines.Are (u .count) (sumsOf u) n) (sym (together-none (totals ps))) (sym (zero-add (length (writePayments ps))))
-told-of h (denied n p) = refl
+told-of h (denied v) = refl
 
 module _ (l : List ℕ) (e : ℕ) (ends : e ≡ 0 + reach lineEnd l) where
   pub first-inside : e ≤ length l
@@ -63,7 +64,7 @@ module _ (l : List ℕ) (e : ℕ) (ends : e ≡ 0 + reach lineEnd l) where
     unfolding compose composeLines
     no-document d all =
         let f : composeLines (l ∷ []) ≡ made d = ap composeLines (sym one-piece) ∙ all in
-        let g = provided-made (empty l) 17 0 (denied 18 0) d f in
+        let g = provided-made (empty l) (refusing 17 0) (denied (refusing 18 0)) d f in
         made-or-denied (sym g.1)
 
   module _ (more : e ≢ length l) where
@@ -99,7 +100,7 @@ module _ (l : List ℕ) (e : ℕ) (ends : e ≡ 0 + reach lineEnd l) where
         where
           by : (c : Composed Header) → here ≡ c → headTold n c ≡ kind.Refused y → lines.Refused r ≡ listingTold (compose l)
           by (made h) i g = absurd (zero-one cc)
-          by (denied m q) i g = ap lines.Refused (w ∙ ap kindWhy (given ∙ sym g)) ∙ sym (ap listingTold (step ∙ ap (λ c. onward c (e + 1) (e + 1)) i))
+          by (denied v) i g = ap lines.Refused (w ∙ ap kindWhy (given ∙ sym g)) ∙ sym (ap listingTold (step ∙ ap (λ c. onward c (e + 1) (e + 1)) i))
 
       -- A is read
       pub listing-read : {k : FileKind} {q : ℕ} → a ≡ kind.Is k q → {r : LinesRead} → r ≡ owed l (lettersOf k) noTotals 0 (e + 1) → r ≡ listingTold (compose l)
@@ -111,7 +112,7 @@ module _ (l : List ℕ) (e : ℕ) (ends : e ≡ 0 + reach lineEnd l) where
               let letters : lettersOf k ≡ h .fileKind = ap lettersOf m ∙ letters-among (h .fileKind) (header-heard (split tab (take e l)) h i .0 .A3) in
               w ∙ ap (λ y. owed l y noTotals 0 (e + 1)) letters
               ∙ sym (ap listingTold (step ∙ ap (λ c. onward c (e + 1) (e + 1)) i) ∙ told-of h (composePayments (h .fileKind) noTotals (e + 1) (split lineEnd (drop (e + 1) l))))
-          by (denied m x) i g = absurd (zero-one cc)
+          by (denied v) i g = absurd (zero-one cc)
 
 -- ---- a listing that is accepted
 

@@ -14,11 +14,14 @@ use borrow.Author.Tests.{eqb-true, eq-eqb, ne-eqb, le-leb}
 use Rattle.form.specs.Kind.{Kind, fixed, digits, maybe, text, choice, same}
 use Rattle.form.proofs.BoolLaws.{is-true}
 use Rattle.form.proofs.KindLaws.{same-self}
+use Rattle.document.specs.Marks.{mostParts}
 use Rattle.listing.specs.Lines.{tab, split, endsInBlank}
-use Rattle.listing.specs.Records.{Cell, inLine, wide, fieldFormed, formed}
+use Rattle.listing.specs.Records.{fieldsWith, Cell, inLine, wide, fieldFormed, formed}
 use Rattle.listing.proofs.LineLaws.{Some, some, split-some}
-use Rattle.pen.specs.declared.Cell.{Cell as CodeCell}
-use Rattle.pen.specs.Walking.{letterOf, reach, cellOf, cellsOf, cellAt}
+use Rattle.layout.specs.declared.Cell.{Cell as CodeCell}
+use Rattle.layout.specs.Lines as line
+use Rattle.layout.specs.Cells.{letterOf, cellOf, cellsOf, cellAt}
+use Rattle.line_reader.specs.Reaching.{reach}
 use Rattle.composer.specs.Telling.{wideAs, formedAs, lineFormed, behindLetter, FormedLine, placeIn}
 use Rattle.composer.proofs.ByteLaws.{refuted}
 use Rattle.composer.proofs.WalkLaws.{begins, letter-parted, formed-count, formed-begins, At, at-begun, at-first, at-field, at-next}
@@ -104,8 +107,8 @@ module _ {head : Bool} {n : ℕ} {x : List ℕ} {i q : ℕ} (w : Stand head n x 
   no-more : i + 1 ≡ n → drop (i + 1) (take n (cellsOf head)) ≡ []
   no-more h = drop-of-length-le (take n (cellsOf head)) {i = i + 1} (omega (arith, length-take-le n (cellsOf head) (w .few)))
 
--- there are 42 at most
-pub cells-few : (head : Bool) → length (cellsOf head) ≤ 42
+-- no line has more than that of a payment with the most parts
+pub cells-few : (head : Bool) → length (cellsOf head) ≤ fieldsWith mostParts
 cells-few true = lit≤ tt
 cells-few false = lit≤ tt
 
@@ -128,7 +131,7 @@ module _ (head : Bool) (n : ℕ) (x : List ℕ) (pre : (0 < n) × (n ≤ length 
   pub other-letter : begins head x ≡ false → false ≡ lineFormed head n (split tab x)
   other-letter h = refuted (lineFormed head n (split tab x)) (λ f. subst T (sym (formed-begins head n x (pre.0, (pre.1, f))) ∙ h) tt)
 
-  pub form-first : length (split tab x) ≡ n + 1 → begins head x ≡ true → Forming head n x 0 2
+  pub form-first : length (split tab x) ≡ n + 1 → begins head x ≡ true → Forming head n x 0 line.first
   form-first l b =
       record {
         stand = record { few = pre.1; all = omega (arith, all-fields x); before = pre.0; at = at-begun head x b };
@@ -168,7 +171,7 @@ pub record Seeking (head : Bool) (n : ℕ) (x : List ℕ) (p i q : ℕ) : Type 0
   pub stand : Stand head n x i q
   pub rest : placeIn head n (split tab x) p ≡ placeFrom head n x p i q
 
-pub place-first : (head : Bool) (n : ℕ) (x : List ℕ) (p : ℕ) → FormedLine head n x → Seeking head n x p 0 2
+pub place-first : (head : Bool) (n : ℕ) (x : List ℕ) (p : ℕ) → FormedLine head n x → Seeking head n x p 0 line.first
 place-first head n x p f =
     record { stand = record { few = f.1.0; all = formed-count head n x f; before = f.0; at = at-first head n x f }; rest = refl }
 

@@ -12,7 +12,8 @@ use Rattle.form.specs.Form.{Form}
 use Rattle.form.specs.Place.{readAt}
 use Rattle.form.proofs.BoolLaws.{T-of, and-both}
 use Rattle.form.proofs.KindLaws.{same-eq}
-use Rattle.rules.specs.Fields.{Name}
+use Rattle.verdict.specs.Verdicts.{refusing}
+use Rattle.diskette.specs.Fields.{Name}
 use Rattle.fields.specs.declared.Refusal.{Refusal}
 use Rattle.fields.specs.Answers.{refusalOf, Telling, ofRead}
 use Rattle.fields.proofs.WalkLaws.{Told, halts}
@@ -20,13 +21,14 @@ use Rattle.listing.specs.Lines.{tab, behindTabs, split}
 use Rattle.listing.specs.Records.{Piece, Cell, cells, lay, inLine}
 use Rattle.listing.specs.Composing.{denied, heard, composeLine}
 use Rattle.listing.proofs.LineLaws.{line-from}
-use Rattle.pen.specs.Walking.{letterOf, cellsOf}
+use Rattle.layout.specs.Lines as line
+use Rattle.layout.specs.Cells.{letterOf, cellsOf}
 use Rattle.composer.specs.Telling.{lineFormed, behindLetter, FormedLine, placeIn, tells}
 
 -- ---- the form
 
 module _ {A : Type 0} (m : Form Name A) (head : Bool) (n p : ℕ) (ps : List Piece) (fields : cells 0 ps ≡ take n (cellsOf head)) where
-  pub line-denied : (ts : List (List ℕ)) → lineFormed head n ts ≡ false → composeLine m (letterOf head) ps p ts ≡ denied 17 p
+  pub line-denied : (ts : List (List ℕ)) → lineFormed head n ts ≡ false → composeLine m (letterOf head) ps p ts ≡ denied (refusing 17 p)
   line-denied [] e = refl
   line-denied (t ∷ ts) e = rw (fields, e)
 
@@ -66,7 +68,7 @@ place-inside head n x p f = by (split tab x) refl (f .1 .1)
     by : (ts : List (List ℕ)) → split tab x ≡ ts → lineFormed head n ts ≡ true → placeIn head n ts p ≤ length x + 1
     by [] e g = absurd (T-of g)
     by (t ∷ ts) e g =
-        let i = in-line-inside (take n (cellsOf head)) ts 2 p in
+        let i = in-line-inside (take n (cellsOf head)) ts line.first p in
         let l : length t + length (behindTabs ts) ≡ length x = sym (length-append t (behindTabs ts)) ∙ ap length (line-from x t ts e) in
         let o : 1 ≡ length t = sym (one-letter head) ∙ ap length (same-eq (letterOf head) t (and-both (same (letterOf head) t) _ (T-of g) .0)) in
         omega arith

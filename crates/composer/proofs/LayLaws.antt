@@ -11,8 +11,8 @@ use Rattle.fields.proofs.AnswerLaws.{zero-one}
 use Rattle.listing.specs.Records.{Piece, own, told, pad, lay, Cell, cells}
 use Rattle.listing.proofs.LineLaws.{pad-length}
 use Rattle.listing.proofs.RecordLaws.{span, lay-length}
-use Rattle.pen.specs.Writing.{over, overIfRoom}
-use Rattle.pen.proofs.OverLaws.{over-room, over-first, over-here, over-behind}
+use Rattle.output.specs.Writing.{over, overIfRoom}
+use Rattle.output.proofs.OverLaws.{over-room, over-first, over-here, over-behind}
 
 -- ---- a field put where its record is blank
 

@@ -13,4 +13,4 @@ pub mod FirstLineLaws
 pub mod WritingLaws
 pub mod FileLaws
 pub mod CallLaws
-pub mod Answers
+pub mod Promises

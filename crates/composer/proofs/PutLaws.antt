@@ -1,6 +1,6 @@
 -- One turn of the loop that puts a line's fields into a record: the next field of the line, put where it stands in the record.
 -- Assumes nothing.
-use Prim.Native.Nat.{ℕ, suc, _+_, _-_, _*_, _≤_, _<_}
+use Prim.Native.Nat.{ℕ, suc, _+_, _-_, _≤_, _<_}
 use native.Mathlib.Numerals.{add-one}
 use native.Mathlib.Omega.{arith}
 use mathlib.Core.Path.{_≡_, refl, sym, ap, _∙_}
@@ -10,15 +10,18 @@ use mathlib.Core.Option.{some}
 use lib.ListN.{length, take, drop, getD, set, getElem?, length-drop}
 use lib.Seq.{take-all, length-take-le, getD-take, getD-drop}
 use Rattle.form.specs.Kind.{width}
+use Rattle.document.specs.Marks.{mostParts}
 use Rattle.listing.specs.Lines.{tab}
-use Rattle.listing.specs.Records.{pad, lay, Cell, cells, recordC}
+use Rattle.listing.specs.Records.{recordC, numbersOfPaymentLine, fieldsWith, pad, lay, Cell, cells}
 use Rattle.listing.proofs.RecordLaws.{lay-length}
-use Rattle.pen.specs.declared.Cell.{Cell as CodeCell}
-use Rattle.pen.specs.Writing.{over, overIfRoom}
-use Rattle.pen.specs.Walking.{reach, recordOf, cellOf, cellsOf, cellAt}
-use Rattle.pen.proofs.ReachLaws.{reach-le, reach-on}
-use Rattle.pen.proofs.WritingLaws.{Writing, writing-start, writing-more, writing-end}
-use Rattle.pen.proofs.CellLaws.{fieldOfC, fields-of-C, fields-first}
+use Rattle.layout.specs.declared.Cell.{Cell as CodeCell}
+use Rattle.output.specs.Writing.{over, overIfRoom}
+use Rattle.layout.specs.Lines as line
+use Rattle.layout.specs.Cells.{recordOf, cellOf, cellsOf, cellAt}
+use Rattle.line_reader.specs.Reaching.{reach}
+use Rattle.line_reader.proofs.ReachLaws.{reach-le, reach-on}
+use Rattle.output.proofs.WritingLaws.{Writing, writing-start, writing-more, writing-end}
+use Rattle.layout.proofs.CellLaws.{fieldOfC, fields-of-C, fields-first}
 use Rattle.composer.specs.Telling.{FormedLine}
 use Rattle.composer.specs.Writing.{Layable}
 use Rattle.composer.proofs.LayLaws.{fills-itself, lay-room, lay-over, lay-step}
@@ -29,12 +32,12 @@ use Rattle.composer.proofs.WideLaws.{among-first, narrow, field-wide, l
 -- ---- the first field
 
 pub put-first : {head : Bool} {k n : ℕ} {x out : List ℕ} → FormedLine head n x → cells 0 (recordOf head k) ≡ take n (cellsOf head)
-    → out ≡ lay (recordOf head k) [] → Layable head k n x out 0 2
+    → out ≡ lay (recordOf head k) [] → Layable head k n x out 0 line.first
 put-first {head} {n = n} {x = x} f is own =
     let w = at-first head n x f in
     record { line = f; cells = is; left = f .0; inside = w .inside; here = w .here; laid = own }
 
-pub payment-first : {k : ℕ} {x out : List ℕ} → k ≤ 15 → FormedLine false (12 + 2 * k) x → out ≡ lay (recordC k) [] → Layable false k (12 + 2 * k) x out 0 2
+pub payment-first : {k : ℕ} {x out : List ℕ} → k ≤ mostParts → FormedLine false (fieldsWith k) x → out ≡ lay (recordC k) [] → Layable false k (fieldsWith k) x out 0 line.first
 payment-first {k} few f own = put-first f (fields-first k few) own
 
 -- ---- field i
@@ -99,29 +102,29 @@ module _ {head : Bool} {k n : ℕ} {x out : List ℕ} {i q : ℕ} (h : Layable h
 
 -- ---- the numbers of a payment
 
-module _ {k : ℕ} {x old : List ℕ} (h : Layable false k (12 + 2 * k) x old 0 2) where
-  pub numbers-inside : 84 ≤ length x
-  numbers-inside = texts-inside (12 + 2 * k) x (h .line) (omega arith)
+module _ {k : ℕ} {x old : List ℕ} (h : Layable false k (fieldsWith k) x old 0 line.first) where
+  pub numbers-inside : line.texts ≤ length x
+  numbers-inside = texts-inside (fieldsWith k) x (h .line) (omega arith)
 
   -- all of them are put: the texts are to come
-  pub numbers-put : {new : List ℕ} → new ≡ lay (recordC k) (take 9 (fieldsOf x)) → Layable false k (12 + 2 * k) x new 9 84
+  pub numbers-put : {new : List ℕ} → new ≡ lay (recordC k) (take numbersOfPaymentLine (fieldsOf x)) → Layable false k (fieldsWith k) x new numbersOfPaymentLine line.texts
   numbers-put e =
-      let w = number-at (12 + 2 * k) x (h .line) (omega arith) 9 (omega arith) in
+      let w = number-at (fieldsWith k) x (h .line) (omega arith) numbersOfPaymentLine (omega arith) in
       record { line = h .line; cells = h .cells; left = omega arith; inside = w .inside; here = w .here; laid = e }
 
   -- number i is put, as wide as in the record
-  pub put-number : (i : ℕ) → i < 9 → {out new : List ℕ} → out ≡ lay (recordC k) (take i (fieldsOf x))
+  pub put-number : (i : ℕ) → i < numbersOfPaymentLine → {out new : List ℕ} → out ≡ lay (recordC k) (take i (fieldsOf x))
       → new ≡ overIfRoom (fieldOfC i .place) (pad (fieldOfC i .width) (take (fieldOfC i .width) (drop (lineAt i) x))) out
       → new ≡ lay (recordC k) (take (suc i) (fieldsOf x))
   put-number i l {out} o w =
       let q = lineAt i in
       let e = q + fieldOfC i .width in
-      let b = among-first (cellsOf false) (12 + 2 * k) i (omega arith) (h .line .1 .0) in
+      let b = among-first (cellsOf false) (fieldsWith k) i (omega arith) (h .line .1 .0) in
       let d : fieldOfC i ≡ cellOf (some (b .0)) = fields-of-C i (omega arith) ∙ ap cellOf (b .1 .1) in
       let here = ap (λ (cs : List Cell). getElem? cs i) (h .cells) ∙ b .1 .0 in
       let m : e - q ≡ fieldOfC i .width = omega arith in
       let t = take (fieldOfC i .width) (drop q x) in
-      let at = rw m at (at-field e (number-at (12 + 2 * k) x (h .line) (omega arith) i (omega arith)) (number-end (12 + 2 * k) x (h .line) (omega arith) i l) .2) in
+      let at = rw m at (at-field e (number-at (fieldsWith k) x (h .line) (omega arith) i (omega arith)) (number-end (fieldsWith k) x (h .line) (omega arith) i l) .2) in
       w
       ∙ ap (λ (y : CodeCell). overIfRoom (y .place) (pad (y .width) t) out) d
       ∙ ap (overIfRoom (b .0 .place) (pad (width (b .0 .kind)) t)) o

@@ -9,20 +9,20 @@ use mathlib.Core.Bool.{false}
 use mathlib.Core.List.{List, [], _∷_, _++_}
 use lib.ListN.{length, take, drop, length-drop, length-append}
 use lib.Seq.{length-take-le, take-all, take-at}
-use Rattle.rules.specs.Values.{Payment, Totals, adding}
+use Rattle.document.specs.Values.{Payment, Totals, adding}
 use Rattle.listing.specs.Lines.{tab, lineEnd, split, empty, behindTabs}
 use Rattle.listing.specs.Composing.{Composed, made, andThen, composePayment, composePayments}
 use Rattle.listing.proofs.LineLaws.{split-some, fields-parted, line-ended, line-parted}
 use Rattle.listing.proofs.LinesLaws.{payments-step}
-use Rattle.pen.specs.Walking.{reach}
-use Rattle.pen.proofs.ReachLaws.{reach-le, pieces-more, pieces-last, split-more, split-last}
-use Rattle.rules.specs.Signs.{ascii}
+use Rattle.line_reader.specs.Reaching.{reach}
+use Rattle.line_reader.proofs.ReachLaws.{reach-le, pieces-more, pieces-last, split-more, split-last}
+use Rattle.document.specs.Signs.{ascii}
 use Rattle.sums.specs.declared.Sums.{Sums}
 use Rattle.listing.specs.Listing.{paymentFields}
 use Rattle.listing.proofs.PaymentLaws.{payment-clear, payment-heard}
-use Rattle.quick.specs.Told.{LineOf}
+use Rattle.line_reader.specs.Told.{LineOf}
 use Rattle.composer.specs.Telling.{paymentTold, LineTold}
-use Rattle.payment.specs.declared.PaymentRead.the-variants as payment
+use Rattle.composer.specs.declared.LaidPayment.the-variants as laid
 use Rattle.composer.specs.declared.LineRead.the-variants as one
 
 pub not-empty : (x : List ℕ) → 0 < length x → empty x ≡ false
@@ -102,8 +102,8 @@ module _ {l : List ℕ} {p : ℕ} {letters : List ℕ} {t : Totals} {sums new : 
   stands : drop p l ≡ front ++ (lineEnd ∷ drop next l)
   stands = line .line ∙ line-ended (ascii "C") fields (drop next l)
 
-  pub quick-told : p ≤ length l → LineTold l p letters t sums (one.Is new bytes next)
-  quick-told h =
+  pub seen-told : p ≤ length l → LineTold l p letters t sums (one.Is new bytes next)
+  seen-told h =
       let legal = payment-heard letters t p (ascii "C" ∷ fields) (line .payment) (line .composed) .good .legal in
       let clear = payment-clear letters (line .payment) legal in
       let parted = ap (split lineEnd) (line .line) ∙ line-parted (ascii "C") fields (drop next l) (tt, clear.1) in
@@ -121,7 +121,7 @@ module _ {l : List ℕ} {p : ℕ} {letters : List ℕ} {t : Totals} {sums new : 
           ends = ap (λ m. p + m) (sym far);
           more = λ i. omega (arith, i);
           told =
-              ap₂ payment.Is (line .added) (line .size)
+              ap₂ laid.Is (line .added) (line .size)
               ∙ sym (ap (paymentTold sums) (ap (composePayment letters t p) parts ∙ line .composed));
         },
         omega arith,

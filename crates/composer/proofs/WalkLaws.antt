@@ -17,15 +17,17 @@ use Rattle.listing.specs.Lines.{tab, behindTabs, split}
 use Rattle.listing.specs.Records.{formed}
 use Rattle.listing.proofs.LineLaws.{clear, split-sign, line-from}
 use Rattle.listing.proofs.RecordLaws.{formed-length}
-use Rattle.pen.specs.Walking.{letterOf, reach, cellsOf}
-use Rattle.pen.proofs.ReachLaws.{reach-le, pieces-more, pieces-last}
+use Rattle.layout.specs.Lines as line
+use Rattle.layout.specs.Cells.{letterOf, cellsOf}
+use Rattle.line_reader.specs.Reaching.{reach}
+use Rattle.line_reader.proofs.ReachLaws.{reach-le, pieces-more, pieces-last}
 use Rattle.composer.specs.Telling.{lineFormed, behindLetter, FormedLine}
 
 -- ---- the letter
 
 -- the line begins with it and a tab
 abbrev pub begins : Bool → List ℕ → Bool
-begins head x = same (letterOf head ++ (tab ∷ [])) (take 2 x)
+begins head x = same (letterOf head ++ (tab ∷ [])) (take line.first x)
 
 letter-clear : (head : Bool) → T (clear tab (letterOf head))
 letter-clear true = tt
@@ -36,14 +38,14 @@ letter-long true = refl
 letter-long false = refl
 
 module _ (head : Bool) (x : List ℕ) (h : begins head x ≡ true) where
-  letter-first : letterOf head ++ (tab ∷ drop 2 x) ≡ x
+  letter-first : letterOf head ++ (tab ∷ drop line.first x) ≡ x
   letter-first =
-      sym (append-assoc (letterOf head) (tab ∷ []) (drop 2 x))
-      ∙ ap (λ (l : List ℕ). l ++ drop 2 x) (same-eq (letterOf head ++ (tab ∷ [])) (take 2 x) (T-of h))
-      ∙ take-append-drop 2 x
+      sym (append-assoc (letterOf head) (tab ∷ []) (drop line.first x))
+      ∙ ap (λ (l : List ℕ). l ++ drop line.first x) (same-eq (letterOf head ++ (tab ∷ [])) (take line.first x) (T-of h))
+      ∙ take-append-drop line.first x
 
-  pub letter-parted : split tab x ≡ letterOf head ∷ split tab (drop 2 x)
-  letter-parted = ap (split tab) (sym letter-first) ∙ split-sign tab (letterOf head) (drop 2 x) (letter-clear head)
+  pub letter-parted : split tab x ≡ letterOf head ∷ split tab (drop line.first x)
+  letter-parted = ap (split tab) (sym letter-first) ∙ split-sign tab (letterOf head) (drop line.first x) (letter-clear head)
 
 -- ---- a line of the form
 
@@ -79,13 +81,13 @@ pub record At (x : List ℕ) (ts : List (List ℕ)) (i q : ℕ) : Type 0 where
   pub here : split tab (drop q x) ≡ drop i ts
 
 -- of a line of which only the beginning is known
-pub at-begun : (head : Bool) (x : List ℕ) → begins head x ≡ true → At x (behindLetter (split tab x)) 0 2
+pub at-begun : (head : Bool) (x : List ℕ) → begins head x ≡ true → At x (behindLetter (split tab x)) 0 line.first
 at-begun head x h = record {
-  inside = omega (arith, letter-long head, length-append (letterOf head) (tab ∷ drop 2 x), ap length (letter-first head x h));
+  inside = omega (arith, letter-long head, length-append (letterOf head) (tab ∷ drop line.first x), ap length (letter-first head x h));
   here = ap behindLetter (sym (letter-parted head x h));
 }
 
-pub at-first : (head : Bool) (n : ℕ) (x : List ℕ) → FormedLine head n x → At x (behindLetter (split tab x)) 0 2
+pub at-first : (head : Bool) (n : ℕ) (x : List ℕ) → FormedLine head n x → At x (behindLetter (split tab x)) 0 line.first
 at-first head n x f = at-begun head x (formed-begins head n x f)
 
 -- the element that a list has at i

@@ -6,7 +6,7 @@ use native.Mathlib.Omega.{arith}
 use mathlib.Core.Path.{_≡_, refl, sym, ap, subst, _∙_}
 use mathlib.Core.Logic.{⊎-elim}
 use mathlib.Core.Bool.{Bool, true, false, _&&_, _||_, not}
-use mathlib.Core.List.{List, [], _∷_}
+use mathlib.Core.List.{List, [], _∷_, _++_}
 use mathlib.Core.Option.{some}
 use lib.ListN.{length, take, drop, getD, getElem?, length-drop}
 use lib.Seq.{length-take-le}
@@ -17,10 +17,12 @@ use Rattle.form.proofs.BelowLaws.{below, agree}
 use Rattle.form.proofs.BoolLaws.{T-of, is-true, and-both, or-cases}
 use Rattle.fields.proofs.AnswerLaws.{zero-one}
 use Rattle.listing.specs.Lines.{tab, split, endsInBlank}
-use Rattle.listing.specs.Records.{Cell, wide, fieldFormed, formed}
-use Rattle.pen.specs.declared.Cell.{Cell as CodeCell}
-use Rattle.pen.specs.Walking.{letterOf, reach, cellOf, cellsOf, cellAt}
-use Rattle.pen.proofs.CellLaws.{fieldOfC, fields-of-C}
+use Rattle.listing.specs.Records.{numbersOfPaymentLine, Cell, wide, fieldFormed, formed}
+use Rattle.layout.specs.declared.Cell.{Cell as CodeCell}
+use Rattle.layout.specs.Lines as line
+use Rattle.layout.specs.Cells.{letterOf, cellOf, cellsOf, cellAt}
+use Rattle.line_reader.specs.Reaching.{reach}
+use Rattle.layout.proofs.CellLaws.{fieldOfC, fields-of-C}
 use Rattle.composer.specs.Telling.{wideAs, lineFormed, behindLetter, FormedLine}
 use Rattle.composer.proofs.WalkLaws.{formed-count, At, at-first, at-field, at-next}
 use Rattle.composer.proofs.FormLaws.{fieldsOf, all-fields, wide-as}
@@ -89,28 +91,28 @@ field-wide head n x f {i} {q} w before e r c is =
 
 -- ---- the numbers of a payment
 
--- where in the line the first nine fields stand, and the field behind them
+-- where in the line they stand, and the field behind them
 abbrev pub lineAt : ℕ → ℕ
-lineAt i = getD (2 ∷ 11 ∷ 20 ∷ 31 ∷ 45 ∷ 48 ∷ 52 ∷ 61 ∷ 72 ∷ 84 ∷ []) i 0
+lineAt i = getD (line.numbersOfLine ++ (line.texts ∷ [])) i 0
 
-numbers-next : (i : ℕ) → i < 9 → lineAt i + fieldOfC i .width + 1 ≡ lineAt (suc i)
+numbers-next : (i : ℕ) → i < numbersOfPaymentLine → lineAt i + fieldOfC i .width + 1 ≡ lineAt (suc i)
 unfolding below
-numbers-next i h = agree (λ i. lineAt i + fieldOfC i .width + 1) (λ i. lineAt (suc i)) 9 i refl h
+numbers-next i h = agree (λ i. lineAt i + fieldOfC i .width + 1) (λ i. lineAt (suc i)) numbersOfPaymentLine i refl h
 
-numbers-full : (i n : ℕ) → i < 9 → T (wideAs (fieldOfC i) n) → n ≡ fieldOfC i .width
+numbers-full : (i n : ℕ) → i < numbersOfPaymentLine → T (wideAs (fieldOfC i) n) → n ≡ fieldOfC i .width
 numbers-full i n h t =
     full-width n (fieldOfC i .width)
-    (subst (λ (b : Bool). T (eqb n (fieldOfC i .width) || ((b && leb n (fieldOfC i .width)) || false))) (lt-leb 9 i h) t)
+    (subst (λ (b : Bool). T (eqb n (fieldOfC i .width) || ((b && leb n (fieldOfC i .width)) || false))) (lt-leb numbersOfPaymentLine i h) t)
 
-module _ (n : ℕ) (x : List ℕ) (f : FormedLine false n x) (some-left : 9 < n) where
-  number-ends : (i : ℕ) → i < 9 → At x (fieldsOf x) i (lineAt i) → lineAt i + fieldOfC i .width ≡ lineAt i + reach tab (drop (lineAt i) x)
+module _ (n : ℕ) (x : List ℕ) (f : FormedLine false n x) (some-left : numbersOfPaymentLine < n) where
+  number-ends : (i : ℕ) → i < numbersOfPaymentLine → At x (fieldsOf x) i (lineAt i) → lineAt i + fieldOfC i .width ≡ lineAt i + reach tab (drop (lineAt i) x)
   number-ends i h w =
       let e = lineAt i + reach tab (drop (lineAt i) x) in
       let k = numbers-full i (e - lineAt i) h (field-wide false n x f w (omega arith) e refl (fieldOfC i) (fields-of-C i (omega arith))) in
       omega arith
 
   -- each field stands at its place
-  pub number-at : (i : ℕ) → i ≤ 9 → At x (fieldsOf x) i (lineAt i)
+  pub number-at : (i : ℕ) → i ≤ numbersOfPaymentLine → At x (fieldsOf x) i (lineAt i)
   number-at zero h = at-first false n x f
   number-at (suc i) h =
       let w = number-at i (omega arith) in
@@ -119,14 +121,14 @@ module _ (n : ℕ) (x : List ℕ) (f : FormedLine false n x) (some-left : 9 < n)
       rw (add-one i, numbers-next i (omega arith)) at next
 
   -- and ends where its width does
-  pub number-end : (i : ℕ) → i < 9 → lineAt i + fieldOfC i .width ≡ lineAt i + reach tab (drop (lineAt i) x)
+  pub number-end : (i : ℕ) → i < numbersOfPaymentLine → lineAt i + fieldOfC i .width ≡ lineAt i + reach tab (drop (lineAt i) x)
   number-end i h = number-ends i h (number-at i (omega arith))
 
   -- the other fields stand behind the numbers
-  pub texts-inside : 84 ≤ length x
-  texts-inside = number-at 9 (omega arith) .inside
+  pub texts-inside : line.texts ≤ length x
+  texts-inside = number-at numbersOfPaymentLine (omega arith) .inside
 
-  pub texts-behind : length (split tab x) ≡ 10 + length (split tab (drop 84 x))
+  pub texts-behind : length (split tab x) ≡ suc numbersOfPaymentLine + length (split tab (drop line.texts x))
   texts-behind =
-      let e = ap length (number-at 9 (omega arith) .here) ∙ length-drop 9 (fieldsOf x) in
+      let e = ap length (number-at numbersOfPaymentLine (omega arith) .here) ∙ length-drop numbersOfPaymentLine (fieldsOf x) in
       omega (arith, all-fields x, formed-count false n x f)

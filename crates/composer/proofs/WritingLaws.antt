@@ -13,23 +13,27 @@ use lib.Dec.{leb}
 use borrow.Rule.Slice.PartMut.{putMid, post-is}
 use Rattle.form.specs.Kind.{same}
 use Rattle.form.proofs.BoolLaws.{is-true}
-use Rattle.rules.specs.Values.{Header, Payment, Document, Totals, noTotals, adding}
-use Rattle.rules.specs.Writing.{section, writeHeader, writePayment, writePayments}
-use Rattle.rules.proofs.LayoutLaws.{payment-length}
+use Rattle.verdict.specs.Verdicts.{refusing}
+use Rattle.document.specs.Marks.{mostParts}
+use Rattle.document.specs.Values.{Header, Payment, Document, Totals, noTotals, adding}
+use Rattle.diskette.specs.Writing.{section, writeHeader, writePayment, writePayments}
+use Rattle.diskette.proofs.LayoutLaws.{payment-length}
 use Rattle.fields.proofs.AnswerLaws.{zero-one}
 use Rattle.listing.specs.Lines.{tab, lineEnd, split, empty}
 use Rattle.listing.specs.Listing.{paymentFields}
-use Rattle.listing.specs.Records.{recordA, recordC, lay, cells, formed}
+use Rattle.listing.specs.Records.{recordA, recordC, fieldsOfHeaderLine, numbersOfPaymentLine, fieldsWith, lay, cells, formed}
 use Rattle.listing.specs.Composing.{Composed, made, provided, composeHeader, composePayment, composePayments, compose}
 use Rattle.listing.proofs.ComposingLaws.{provided-made, andThen-made}
 use Rattle.listing.proofs.HeaderLaws.{header-heard, header-laid, header-formed}
 use Rattle.listing.proofs.PaymentLaws.{payment-heard, payment-laid, payment-formed}
-use Rattle.pen.specs.Writing.{over}
-use Rattle.pen.specs.Walking.{reach, cellsOf}
-use Rattle.pen.proofs.OverLaws.{over-next, over-length, over-nothing}
+use Rattle.output.specs.Writing.{over}
+use Rattle.layout.specs.Lines as line
+use Rattle.layout.specs.Cells.{cellsOf}
+use Rattle.line_reader.specs.Reaching.{reach}
+use Rattle.output.proofs.OverLaws.{over-next, over-length, over-nothing}
 use Rattle.composer.specs.Telling.{lineFormed, behindLetter, FormedLine, linesParts, PaymentLine}
-use Rattle.composer.specs.Writing.{paymentsOf, Accepted}
-use Rattle.pen.proofs.CellLaws.{fields-first}
+use Rattle.composer.specs.Writing.{composedPayments, AcceptedListing}
+use Rattle.layout.proofs.CellLaws.{fields-first}
 use Rattle.composer.proofs.WalkLaws.{formed-count}
 use Rattle.composer.proofs.FormLaws.{all-fields}
 use Rattle.composer.proofs.WideLaws.{texts-inside, texts-behind}
@@ -53,7 +57,7 @@ part-long p n old h =
 -- ---- the line of a payment
 
 -- its bytes in the file, by the number k of its parts
-pub bytes-told : (x : List ℕ) {k bytes : ℕ} → k ≡ linesParts x → bytes ≡ 128 * section (min k 15) → bytes ≡ 128 * section (linesParts x)
+pub bytes-told : (x : List ℕ) {k bytes : ℕ} → k ≡ linesParts x → bytes ≡ 128 * section (min k mostParts) → bytes ≡ 128 * section (linesParts x)
 bytes-told x parts e = e ∙ ap (λ n. 128 * section n) (min-is _ (omega (arith, parts, few (length (split tab x)))) ∙ parts)
 
 -- its form, and what its record is
@@ -66,22 +70,22 @@ pub line-written : (letters : List ℕ) (t : Totals) (p : ℕ) (x : List ℕ) (q
 line-written letters t p x q e =
     let h = payment-heard letters t p (split tab x) q e in
     let legal = h .good .legal in
-    let f : formed (take (12 + 2 * linesParts x) (cellsOf false)) (paymentFields q) ≡ true
+    let f : formed (take (fieldsWith (linesParts x)) (cellsOf false)) (paymentFields q) ≡ true
     = ap (λ cs. formed cs (paymentFields q)) (sym (fields-first (linesParts x) (few (length (split tab x)))) ∙ ap (λ k. cells 0 (recordC k)) (h .parts))
     ∙ is-true _ (payment-formed letters q legal) in
     let m = few (length (split tab x)) in
     record {
-      form = (omega arith, (omega arith, ap (lineFormed false (12 + 2 * linesParts x)) (h .fields) ∙ f));
+      form = (omega arith, (omega arith, ap (lineFormed false (fieldsWith (linesParts x))) (h .fields) ∙ f));
       bytes = ap₂ (λ k ts. lay (recordC k) (behindLetter ts)) (h .parts) (h .fields) ∙ payment-laid letters q legal;
       size = ap (λ k. 128 * section k) (h .parts) ∙ sym (payment-length letters q legal);
     }
 
 -- ---- the line of A
 
-pub head-written : (x : List ℕ) (h : Header) → composeHeader (split tab x) ≡ made h → FormedLine true 8 x × (lay recordA (behindLetter (split tab x)) ≡ writeHeader h)
+pub head-written : (x : List ℕ) (h : Header) → composeHeader (split tab x) ≡ made h → FormedLine true fieldsOfHeaderLine x × (lay recordA (behindLetter (split tab x)) ≡ writeHeader h)
 head-written x h e =
     let g = header-heard (split tab x) h e in (
-      (omega arith, (omega arith, ap (lineFormed true 8) g.1 ∙ is-true _ (header-formed h g.0))),
+      (omega arith, (omega arith, ap (lineFormed true fieldsOfHeaderLine) g.1 ∙ is-true _ (header-formed h g.0))),
       ap (λ ts. lay recordA (behindLetter ts)) g.1 ∙ header-laid h g.0,
     )
 
@@ -146,8 +150,8 @@ module _ {l old : List ℕ} {ps : List Payment} {out : List ℕ} {row p at : ℕ
       let letters = putting .letters in
       let t = putting .before in
       let f : composePayments letters t p (drop p l ∷ []) ≡ made (q ∷ qs) = ap (composePayments letters t p) (sym (last-piece l p e (putting .inside) ends last)) ∙ all in
-      let g = provided-made (empty (drop p l)) 17 p (provided (leb 1 (t .count)) 18 p (made [])) (q ∷ qs) f in
-      let h = provided-made (leb 1 (t .count)) 18 p (made []) (q ∷ qs) g.1 in
+      let g = provided-made (empty (drop p l)) (refusing 17 p) (provided (leb 1 (t .count)) (refusing 18 p) (made [])) (q ∷ qs) f in
+      let h = provided-made (leb 1 (t .count)) (refusing 18 p) (made []) (q ∷ qs) g.1 in
       let none = h.1 in
       zero-one cc
 
@@ -209,7 +213,7 @@ drop-take (suc m) zero l = let e : 0 - suc m ≡ 0 = omega arith in rw e
 drop-take (suc m) (suc n) [] = sym (take-nil (suc n - suc m))
 drop-take (suc m) (suc n) (x ∷ xs) = let e : suc n - suc m ≡ n - m = omega arith in rw e (drop-take m n xs)
 
--- its texts stand behind the numbers: where they end the line does, and all else but the letter and nine numbers is theirs
+-- its texts stand behind the numbers: where they end the line does, and all else but the letter and the numbers is theirs
 module _ {l old : List ℕ} {ps : List Payment} {out : List ℕ} {row p at : ℕ} (putting : Putting l old ps out row p at) (left : row < length ps) where
   abbrev end : ℕ
   end = p + reach lineEnd (drop p l)
@@ -221,31 +225,31 @@ module _ {l old : List ℕ} {ps : List Payment} {out : List ℕ} {row p at : ℕ
   form = line-written (putting .letters) (putting .before) p (lineTo l p end) (coming .payment) (coming .composed) .form
 
   abbrev fieldsThere : ℕ
-  fieldsThere = 12 + 2 * linesParts (lineTo l p end)
+  fieldsThere = fieldsWith (linesParts (lineTo l p end))
 
-  ahead : 84 ≤ reach lineEnd (drop p l)
+  ahead : line.texts ≤ reach lineEnd (drop p l)
   ahead =
       let h = texts-inside fieldsThere (lineTo l p end) form (omega arith) in
       let i = line-inside l p end (putting .inside) refl in
       let n : length (lineTo l p end) ≡ end - p = length-take-le (end - p) (drop p l) (omega (arith, length-drop p l)) in
       omega arith
 
-  pub texts-end : p + 84 + reach lineEnd (drop (p + 84) l) ≡ p + reach lineEnd (drop p l)
-  texts-end = omega (arith, reach-behind lineEnd l p 84 ahead)
+  pub texts-end : p + line.texts + reach lineEnd (drop (p + line.texts) l) ≡ p + reach lineEnd (drop p l)
+  texts-end = omega (arith, reach-behind lineEnd l p line.texts ahead)
 
-  pub texts-within : p + 84 + reach lineEnd (drop (p + 84) l) < length l
+  pub texts-within : p + line.texts + reach lineEnd (drop (p + line.texts) l) < length l
   texts-within = omega (arith, texts-end, line-within l p end (putting .inside) refl (coming .more))
 
   -- its fields
-  pub texts-counted : (e n : ℕ) → e ≡ end → n ≡ length (split tab (restFrom l (p + 84))) → 10 + n ≡ length (split tab (lineTo l p e))
+  pub texts-counted : (e n : ℕ) → e ≡ end → n ≡ length (split tab (restFrom l (p + line.texts))) → suc numbersOfPaymentLine + n ≡ length (split tab (lineTo l p e))
   texts-counted e n i c =
-      let m : end - p - 84 ≡ reach lineEnd (drop (p + 84) l) = omega (arith, texts-end) in
-      let rest : drop 84 (lineTo l p end) ≡ restFrom l (p + 84)
-      = drop-take 84 (end - p) (drop p l) ∙ ap₂ (λ (k : ℕ) (x : List ℕ). take k x) m (drop-drop 84 p l) in
+      let m : end - p - line.texts ≡ reach lineEnd (drop (p + line.texts) l) = omega (arith, texts-end) in
+      let rest : drop line.texts (lineTo l p end) ≡ restFrom l (p + line.texts)
+      = drop-take line.texts (end - p) (drop p l) ∙ ap₂ (λ (k : ℕ) (x : List ℕ). take k x) m (drop-drop line.texts p l) in
       let all = texts-behind fieldsThere (lineTo l p end) form (omega arith) in
-      ap (λ k. 10 + k) (c ∙ ap (λ (x : List ℕ). length (split tab x)) (sym rest)) ∙ sym all ∙ ap (λ k. length (split tab (lineTo l p k))) (sym i)
+      ap (λ k. suc numbersOfPaymentLine + k) (c ∙ ap (λ (x : List ℕ). length (split tab x)) (sym rest)) ∙ sym all ∙ ap (λ k. length (split tab (lineTo l p k))) (sym i)
 
-  pub texts-few : (e n : ℕ) → e ≡ end → n ≡ length (split tab (restFrom l (p + 84))) → 10 + n ≤ 43
+  pub texts-few : (e n : ℕ) → e ≡ end → n ≡ length (split tab (restFrom l (p + line.texts))) → suc numbersOfPaymentLine + n ≤ suc (fieldsWith mostParts)
   texts-few e n i c =
       let x = lineTo l p end in
       let k = few (length (split tab x)) in
@@ -253,14 +257,14 @@ module _ {l old : List ℕ} {ps : List Payment} {out : List ℕ} {row p at : ℕ
 
 -- ---- all of them
 
-pub payments-are : (l : List ℕ) {d : Document} → compose l ≡ made d → paymentsOf (compose l) ≡ d .payments
-unfolding paymentsOf
-payments-are l e = ap paymentsOf e
+pub payments-are : (l : List ℕ) {d : Document} → compose l ≡ made d → composedPayments (compose l) ≡ d .payments
+unfolding composedPayments
+payments-are l e = ap composedPayments e
 
-pub counted : {l : List ℕ} {start n size : ℕ} (accepted : Accepted l start n size) → n ≡ length (paymentsOf (compose l))
+pub counted : {l : List ℕ} {start n size : ℕ} (accepted : AcceptedListing l start n size) → n ≡ length (composedPayments (compose l))
 counted {l} accepted = accepted .count ∙ ap length (sym (payments-are l (accepted .told)))
 
-pub putting-first : {l : List ℕ} {start n : ℕ} (old : List ℕ) → Accepted l start n (length old) → Putting l old (paymentsOf (compose l)) old 0 start 128
+pub putting-first : {l : List ℕ} {start n : ℕ} (old : List ℕ) → AcceptedListing l start n (length old) → Putting l old (composedPayments (compose l)) old 0 start 128
 putting-first {l} old accepted =
     let m = made-lines l (accepted .document) (accepted .told) in
     let w = m .within in

@@ -1,15 +1,17 @@
--- What the code that writes may rely on: the listing has been accepted, and there is room.
+-- What private functions go by, and no public promise cites: those that write rely on a listing that has been accepted, and on room.
 use Prim.Native.Nat.{ℕ, _+_, _^_, _≤_, _<_}
 use mathlib.Core.Path.{_≡_}
 use mathlib.Core.Bool.{Bool}
 use mathlib.Core.List.{List, []}
 use lib.ListN.{length, take, drop}
-use Rattle.rules.specs.Values.{Payment, Document, Totals, totals}
-use Rattle.rules.specs.Writing.{write, writePayments}
+use Rattle.document.specs.Values.{Payment, Document, Totals, totals}
+use Rattle.diskette.specs.Writing.{write, writePayments}
 use Rattle.listing.specs.Lines.{tab, lineEnd, split}
 use Rattle.listing.specs.Records.{cells, lay}
 use Rattle.listing.specs.Composing.{Composed, made, denied, compose}
-use Rattle.pen.specs.Walking.{reach, recordOf, cellsOf}
+use Rattle.layout.specs.Widths as width
+use Rattle.layout.specs.Cells.{recordOf, cellsOf}
+use Rattle.line_reader.specs.Reaching.{reach}
 use Rattle.composer.specs.Telling.{FormedLine, behindLetter}
 
 -- the line tells the n fields of such a record, which has what is its own and the first i fields; field i stands at q of the line
@@ -23,18 +25,18 @@ pub record Layable (head : Bool) (k n : ℕ) (x out : List ℕ) (i q : ℕ) : Ty
 
 -- each figure has room in E
 pub record Writable (t : Totals) : Type 0 where
-  pub count : t .count < 10 ^ 7
-  pub accounts : t .accounts < 10 ^ 17
-  pub bankCodes : t .bankCodes < 10 ^ 17
-  pub cents : t .cents < 10 ^ 13
+  pub count : t .count < 10 ^ width.E4
+  pub accounts : t .accounts < 10 ^ width.E6
+  pub bankCodes : t .bankCodes < 10 ^ width.E7
+  pub cents : t .cents < 10 ^ width.E8
 
 -- the payments that a listing tells
-unfoldable pub paymentsOf : Composed Document → List Payment
-paymentsOf (made d) = d .payments
-paymentsOf (denied n p) = []
+unfoldable pub composedPayments : Composed Document → List Payment
+composedPayments (made d) = d .payments
+composedPayments (denied v) = []
 
 -- a listing of so many payments has been accepted, their lines begin at `start`, and there is room for A and for them
-pub record Accepted (l : List ℕ) (start n size : ℕ) : Type 0 where
+pub record AcceptedListing (l : List ℕ) (start n size : ℕ) : Type 0 where
   pub document : Document
   pub told : compose l ≡ made document
   pub begins : start ≡ reach lineEnd l + 1

@@ -6,14 +6,14 @@ ghost use mathlib.Core.List.{[], _∷_, _++_};
 ghost use lib.ListN.{length, take, drop};
 ghost use Rattle.form.specs.Kind.{same};
 ghost use Rattle.listing.specs.Lines.{tab, lineEnd, split, endsInBlank};
-ghost use Rattle.pen.specs.Walking.{reach, letterOf, cellsOf};
+ghost use Rattle.layout.specs.Lines as line;
+ghost use Rattle.layout.specs.Cells.{letterOf, cellsOf};
+ghost use Rattle.line_reader.specs.Reaching.{reach};
 ghost use Rattle.composer.specs.Telling.{formedAs, lineFormed, FormedLine, placeIn};
-use pen::Cell;
+use layout::Cell;
 
-// In a payment's line of its form, how many fields stand ahead of the first text, the letter and nine numbers of full width, and where that text begins.
-pub(crate) const AHEAD_OF_TEXTS: usize = 10;
-
-pub(crate) const TEXTS: usize = 84;
+// In a payment's line of its form, how many fields stand ahead of the first text: the letter and the numbers, which have full width.
+pub(crate) const AHEAD_OF_TEXTS: usize = 1 + layout::line::NUMBERS_OF_C;
 
 // Where the field at q ends: at the next tab, or where the line does. Fields are short, so it is looked for byte by byte.
 fn field_end(x: &[u8], q: usize) -> usize
@@ -21,7 +21,7 @@ fn field_end(x: &[u8], q: usize) -> usize
 {
     let mut i = q;
     while i < x.len() {
-        if x[i] == pen::TAB {
+        if x[i] == layout::line::TAB {
             return i;
         }
         i += 1;
@@ -58,16 +58,16 @@ pub(crate) fn rest_of_line(l: &[u8], p: usize) -> Rest
     let mut fields = 1;
     let mut i = p;
     loop {
-        while l[i] > pen::LINE_END {
+        while l[i] > layout::line::END {
             i += 1;
         }
-        if l[i] == pen::LINE_END {
+        if l[i] == layout::line::END {
             return Rest {
                 end: i,
                 fields: fields,
             };
         }
-        if l[i] == pen::TAB {
+        if l[i] == layout::line::TAB {
             fields += 1;
         }
         i += 1;
@@ -96,12 +96,12 @@ fn field_formed(c: Cell, t: &[u8]) -> bool
 
 // Whether the line begins with the letter of A, or of C, and a tab.
 fn begins(head: bool, x: &[u8]) -> bool
-    ensures { λ r. ⌜ r ≡ same (letterOf head ++ (tab ∷ [])) (take 2 (now (x .entry))) ⌝ }
+    ensures { λ r. ⌜ r ≡ same (letterOf head ++ (tab ∷ [])) (take line.first (now (x .entry))) ⌝ }
 {
-    if x.len() < 2 {
+    if x.len() < layout::line::FIRST {
         return false;
     }
-    (x[0] == pen::letter(head)) & (x[1] == pen::TAB)
+    (x[0] == output::letter(head)) & (x[1] == layout::line::TAB)
 }
 
 // Whether the line has the form of A, or of a C, with n fields behind its letter.
@@ -115,11 +115,11 @@ pub(crate) fn formed(head: bool, n: usize, x: &[u8]) -> bool
     if !begins(head, x) {
         return false;
     }
-    let mut q = 2;
+    let mut q = layout::line::FIRST;
     let mut i = 0;
     loop {
         let e = field_end(x, q);
-        let c = pen::cell_at(head, i);
+        let c = layout::cell_at(head, i);
         if !field_formed(c, &x[q..e]) {
             return false;
         }
@@ -136,10 +136,10 @@ pub(crate) fn place_of(head: bool, n: usize, x: &[u8], p: usize) -> usize
     requires { ⌜ FormedLine head n (now x) ⌝ }
     ensures { λ r. ⌜ r ≡ placeIn head n (split tab (now (x .entry))) p ⌝ }
 {
-    let mut q = 2;
+    let mut q = layout::line::FIRST;
     let mut i = 0;
     loop {
-        let c = pen::cell_at(head, i);
+        let c = layout::cell_at(head, i);
         if p == c.place {
             return q;
         }

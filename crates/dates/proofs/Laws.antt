@@ -8,8 +8,8 @@ use Rattle.form.specs.Kind.{digits, maybe}
 use Rattle.form.specs.Reader.{Look, has}
 use Rattle.form.specs.Place.{lookAt}
 use Rattle.form.proofs.FilledLaws.{look-digits, look-maybe}
-use Rattle.rules.specs.Calendar.{ofDDMMYY, ofDDMMYYYY}
-use Rattle.rules.specs.Fields.{executionOf}
+use Rattle.document.specs.Calendar.{ofDDMMYY, ofDDMMYYYY}
+use Rattle.diskette.specs.Fields.{executionOf}
 use Rattle.calendar.specs.declared.Day.{Day}
 use Rattle.calendar.specs.Days.{dayOf}
 use Rattle.fields.specs.Answers.{ofField}

@@ -1,9 +1,9 @@
 -- What the readers of the header's two days answer: the day that a number names, as the code holds it.
 use Prim.Native.Nat.{ℕ}
 use mathlib.Core.Option.{Option, none, some}
-use Rattle.rules.specs.Calendar.{ofDDMMYY}
-use Rattle.rules.specs.Calendar as rules
-use Rattle.rules.specs.Fields.{executionOf}
+use Rattle.document.specs.Calendar.{ofDDMMYY}
+use Rattle.document.specs.Calendar as document
+use Rattle.diskette.specs.Fields.{executionOf}
 use Rattle.calendar.specs.declared.Day.{Day}
 use Rattle.fields.specs.declared.Refusal.{Refusal}
 use Rattle.fields.specs.Answers.{refusalOf, Telling}
@@ -15,13 +15,13 @@ use Rattle.dates.specs.declared.ExecutionRead.{ExecutionRead}
 use Rattle.dates.specs.declared.ExecutionRead.the-variants as execution
 
 -- the day of the code that a day of the rules is
-abbrev pub dayFrom : rules.Day → Day
+abbrev pub dayFrom : document.Day → Day
 dayFrom d = record { day = d .day; month = d .month; year = d .year }
 
 abbrev pub days : Telling ℕ DayRead
 days = record { gives = λ n q. day.Is (dayFrom (ofDDMMYY n)) q; refuses = day.Refused }
 
-abbrev pub executionIn : Option rules.Day → Execution
+abbrev pub executionIn : Option document.Day → Execution
 executionIn none = Absent
 executionIn (some d) = On (dayFrom d)
 

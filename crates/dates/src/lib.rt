@@ -3,7 +3,7 @@ ghost use mathlib.Core.Path.{_≡_};
 ghost use Prim.Native.Nat.{_+_};
 ghost use Rattle.form.specs.Kind.{digits, maybe};
 ghost use Rattle.form.specs.Place.{fieldAt};
-ghost use Rattle.rules.specs.Fields.{rulesA7, rulesA11b};
+ghost use Rattle.diskette.specs.Fields.{rulesA7, rulesA11b};
 ghost use Rattle.calendar.specs.Days.{dayOf};
 ghost use Rattle.fields.specs.Answers.{ofField};
 ghost use Rattle.dates.specs.Dates.{days, dayWhy, executions, executionWhy};
@@ -11,7 +11,8 @@ use calendar::Day;
 use fields::MaybeNumber;
 use fields::Number;
 use fields::Refusal;
-use fields::numbers;
+use fields::refusals;
+use layout::width;
 
 // The day of execution, A11b: no date, or a day.
 pub enum Execution {
@@ -56,13 +57,13 @@ impl ExecutionRead {
 pub fn made_at(s: &[u8], p: usize) -> DayRead
     ensures { λ r. ⌜ r ≡ ofField days p (p + 6) (fieldAt (digits 6) rulesA7 (now (s .entry)) p) ⌝ }
 {
-    let a = fields::number_at(s, p, 6);
+    let a = fields::number_at(s, p, width::A7);
     let Number::Is(n, q) = a else {
         return DayRead::Refused(a.why());
     };
     let d = calendar::of_ddmmyy(n);
     if !calendar::is_day(d) {
-        return DayRead::Refused(fields::refuse(numbers::NO_DATE, p));
+        return DayRead::Refused(fields::refuse(refusals::NO_DATE, p));
     }
     DayRead::Is(d, q)
 }
@@ -71,16 +72,16 @@ pub fn made_at(s: &[u8], p: usize) -> DayRead
 pub fn execution_at(s: &[u8], p: usize, made: Day) -> ExecutionRead
     ensures { λ r. ⌜ r ≡ ofField executions p (p + 8) (fieldAt (maybe 8) (rulesA11b (dayOf made)) (now (s .entry)) p) ⌝ }
 {
-    let a = fields::maybe_number_at(s, p, 8);
+    let a = fields::maybe_number_at(s, p, width::A11B);
     match a {
         MaybeNumber::Blank(q) => ExecutionRead::Is(Execution::Absent, q),
         MaybeNumber::Is(n, q) => {
             let d = calendar::of_ddmmyyyy(n);
             if !calendar::is_day(d) {
-                return ExecutionRead::Refused(fields::refuse(numbers::NO_DATE, p));
+                return ExecutionRead::Refused(fields::refuse(refusals::NO_DATE, p));
             }
             if !calendar::in_span(made, d) {
-                return ExecutionRead::Refused(fields::refuse(numbers::NO_DATE, p));
+                return ExecutionRead::Refused(fields::refuse(refusals::NO_DATE, p));
             }
             ExecutionRead::Is(Execution::On(d), q)
         }

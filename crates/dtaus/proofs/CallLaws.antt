@@ -6,20 +6,20 @@ use mathlib.Core.List.{List, [], _∷_}
 use lib.ListN.{length}
 use lib.Dec.{leb}
 use borrow.Author.Tests.{le-leb, lt-leb}
-use Rattle.rules.specs.Answer.{answer, outcome, Outcome, filled}
+use Rattle.verdict.specs.Lent.{filled}
+use Rattle.diskette.specs.Answer.{answer, outcome, Outcome}
 use Rattle.sums.specs.Sums.{totalsOf}
 use Rattle.listing.specs.Composing.{compose}
-use Rattle.listing.specs.Endings.{Ending, listed, composed, within, bytesOf}
-use Rattle.pen.specs.declared.Written.{Written}
-use Rattle.pen.specs.Writing.{writtenOf}
+use Rattle.listing.specs.Endings.{Ending, listed, composed, within, written}
+use Rattle.output.specs.declared.Written.{Written}
+use Rattle.output.specs.Writing.{writtenOf}
 use Rattle.checker.specs.declared.Checked.{Checked}
 use Rattle.checker.specs.Checking.{checkedOf}
-use Rattle.columns.specs.declared.Loaded.{Loaded}
-use Rattle.columns.specs.Columns.{bankCodes, accounts, cents, starts}
-use Rattle.columns.specs.Loading.{ifRoom, loading}
-use Rattle.columns.proofs.LoadLaws as columns
-use Rattle.spots.specs.declared.Spot.{Spot}
-use Rattle.spots.specs.Spots.{findAt, locateAt}
+use Rattle.loader.specs.Columns.{bankCodes, accounts, cents, starts}
+use Rattle.loader.specs.Loading.{ifRoom, loading}
+use Rattle.loader.proofs.LoadLaws as columns
+use Rattle.finder.specs.declared.Spot.{Spot}
+use Rattle.finder.specs.Spots.{findAt, locateAt}
 use Rattle.dtaus.specs.Figures.{outcomeFigures, writtenFigures, spotFigures, told}
 use Rattle.dtaus.specs.Calls.{textNamed, checking, loadingWith, rowsOf, ifTold, listingWith, composingWith, ifPlaced, findingWith, locatingWith}
 use Rattle.dtaus.proofs.TellingLaws.{not-told}
@@ -27,19 +27,19 @@ use Rattle.dtaus.proofs.TellingLaws.{not-told}
 -- ---- what the calls say: the number that is returned, and what the lent slices hold afterwards
 
 abbrev pub SaysOutcome : Outcome → List ℕ → ℕ → List ℕ → Type 0
-SaysOutcome o result r new = (r ≡ o .number) × (new ≡ told (outcomeFigures o) result)
+SaysOutcome o result r new = (r ≡ o .verdict .number) × (new ≡ told (outcomeFigures o) result)
 
 abbrev pub SaysWritten : Ending → List ℕ → List ℕ → ℕ → List ℕ → List ℕ → Type 0
 SaysWritten e output result r bytes new =
-    (r ≡ writtenOf e .number) × ((bytes ≡ filled (bytesOf e) output) × (new ≡ told (writtenFigures (writtenOf e)) result))
+    (r ≡ writtenOf e .verdict .number) × ((bytes ≡ filled (written e) output) × (new ≡ told (writtenFigures (writtenOf e)) result))
 
 abbrev pub SaysSpot : Spot → List ℕ → ℕ → List ℕ → Type 0
-SaysSpot s result r new = (r ≡ s .number) × (new ≡ told (spotFigures s) result)
+SaysSpot s result r new = (r ≡ s .verdict .number) × (new ≡ told (spotFigures s) result)
 
 -- a load says it of its columns too
 abbrev pub SaysLoaded : List ℕ → List ℕ → List ℕ → List ℕ → List ℕ → List ℕ → ℕ → List ℕ → List ℕ → List ℕ → List ℕ → List ℕ → Type 0
 SaysLoaded file c4 c5 c12 start result r c4′ c5′ c12′ start′ new =
-    (r ≡ loadingWith (c4 ∷ c5 ∷ c12 ∷ start ∷ []) result file .number)
+    (r ≡ loadingWith (c4 ∷ c5 ∷ c12 ∷ start ∷ []) result file .verdict .number)
     × ((c4′ ≡ filled (bankCodes (rowsOf r file)) c4)
     × ((c5′ ≡ filled (accounts (rowsOf r file)) c5)
     × ((c12′ ≡ filled (cents (rowsOf r file)) c12)
@@ -88,59 +88,59 @@ module _ (result : List ℕ) where
   -- ---- a result with room
 
   roomy-outcome : (o : Outcome) → 6 ≤ length result → {new : List ℕ} → new ≡ told (outcomeFigures o) result
-      → SaysOutcome (ifRoom (leb 6 (length result)) o) result (o .number) new
-  roomy-outcome o h {new} e = subst (λ b. SaysOutcome (ifRoom b o) result (o .number) new) (sym (le-leb 6 (length result) h)) (refl, e)
+      → SaysOutcome (ifRoom (leb 6 (length result)) o) result (o .verdict .number) new
+  roomy-outcome o h {new} e = subst (λ b. SaysOutcome (ifRoom b o) result (o .verdict .number) new) (sym (le-leb 6 (length result) h)) (refl, e)
 
   pub check-told : (file : List ℕ) → 6 ≤ length result → {c : Checked} → c ≡ checkedOf (outcome (answer file)) → {new : List ℕ}
-      → new ≡ told (outcomeFigures (record { number = c .number; place = c .place; totals = totalsOf (c .count) (c .sums) })) result
-      → SaysOutcome (checking result file) result (c .number) new
+      → new ≡ told (outcomeFigures (record { verdict = c .verdict; totals = totalsOf (c .count) (c .sums) })) result
+      → SaysOutcome (checking result file) result (c .verdict .number) new
   unfolding checking
   check-told file h {c} e {new} i =
-      subst (λ (x : Checked). SaysOutcome (ifRoom (leb 6 (length result)) (outcome (answer file))) result (x .number) new) (sym e)
+      subst (λ (x : Checked). SaysOutcome (ifRoom (leb 6 (length result)) (outcome (answer file))) result (x .verdict .number) new) (sym e)
       (roomy-outcome (outcome (answer file)) h
-      (i ∙ ap (λ (x : Checked). told (outcomeFigures (record { number = x .number; place = x .place; totals = totalsOf (x .count) (x .sums) })) result) e))
+      (i ∙ ap (λ (x : Checked). told (outcomeFigures (record { verdict = x .verdict; totals = totalsOf (x .count) (x .sums) })) result) e))
 
-  pub load-told : (file c4 c5 c12 start : List ℕ) → 6 ≤ length result → {l : Loaded} {c4′ c5′ c12′ start′ : List ℕ}
+  pub load-told : (file c4 c5 c12 start : List ℕ) → 6 ≤ length result → {l : Checked} {c4′ c5′ c12′ start′ : List ℕ}
       → columns.Says file c4 c5 c12 start l c4′ c5′ c12′ start′ → {new : List ℕ}
-      → new ≡ told (outcomeFigures (record { number = l .number; place = l .place; totals = totalsOf (l .count) (l .sums) })) result
-      → SaysLoaded file c4 c5 c12 start result (l .number) c4′ c5′ c12′ start′ new
+      → new ≡ told (outcomeFigures (record { verdict = l .verdict; totals = totalsOf (l .count) (l .sums) })) result
+      → SaysLoaded file c4 c5 c12 start result (l .verdict .number) c4′ c5′ c12′ start′ new
   unfolding loadingWith
   load-told file c4 c5 c12 start h {l} {c4′} {c5′} {c12′} {start′} s {new} i =
       let o = loading (c4 ∷ c5 ∷ c12 ∷ start ∷ []) (answer file) in
-      let t = subst (λ (x : Loaded). SaysOutcome (ifRoom (leb 6 (length result)) o) result (x .number) new) (sym (s .0))
+      let t = subst (λ (x : Checked). SaysOutcome (ifRoom (leb 6 (length result)) o) result (x .verdict .number) new) (sym (s .0))
       (roomy-outcome o h
-      (i ∙ ap (λ (x : Loaded). told (outcomeFigures (record { number = x .number; place = x .place; totals = totalsOf (x .count) (x .sums) })) result) (s .0))) in
+      (i ∙ ap (λ (x : Checked). told (outcomeFigures (record { verdict = x .verdict; totals = totalsOf (x .count) (x .sums) })) result) (s .0))) in
       (t .0, (s .1 .0, (s .1 .1 .0, (s .1 .1 .1 .0, (s .1 .1 .1 .1, t .1)))))
 
-  roomy-written : (e : Ending) (output : List ℕ) → 3 ≤ length result → {w : Written} → w ≡ writtenOf e → {bytes : List ℕ} → bytes ≡ filled (bytesOf e) output
-      → {new : List ℕ} → new ≡ told (writtenFigures w) result → SaysWritten (ifTold (leb 3 (length result)) e) output result (w .number) bytes new
+  roomy-written : (e : Ending) (output : List ℕ) → 3 ≤ length result → {w : Written} → w ≡ writtenOf e → {bytes : List ℕ} → bytes ≡ filled (written e) output
+      → {new : List ℕ} → new ≡ told (writtenFigures w) result → SaysWritten (ifTold (leb 3 (length result)) e) output result (w .verdict .number) bytes new
   roomy-written e output h {w} i {bytes} j {new} k =
-      subst (λ b. SaysWritten (ifTold b e) output result (w .number) bytes new) (sym (le-leb 3 (length result) h))
-      (ap (λ (x : Written). x .number) i, (j, k ∙ ap (λ (x : Written). told (writtenFigures x) result) i))
+      subst (λ b. SaysWritten (ifTold b e) output result (w .verdict .number) bytes new) (sym (le-leb 3 (length result) h))
+      (ap (λ (x : Written). x .verdict .number) i, (j, k ∙ ap (λ (x : Written). told (writtenFigures x) result) i))
 
   module _ (h : 3 ≤ length result) (output : List ℕ) {w : Written} {bytes new : List ℕ} (k : new ≡ told (writtenFigures w) result) where
     pub list-told : (file : List ℕ)
-        → (w ≡ writtenOf (within (length output) (listed (answer file)))) × (bytes ≡ filled (bytesOf (within (length output) (listed (answer file)))) output)
-        → SaysWritten (listingWith (length output) result file) output result (w .number) bytes new
+        → (w ≡ writtenOf (within (length output) (listed (answer file)))) × (bytes ≡ filled (written (within (length output) (listed (answer file)))) output)
+        → SaysWritten (listingWith (length output) result file) output result (w .verdict .number) bytes new
     unfolding listingWith
     list-told file s = roomy-written (within (length output) (listed (answer file))) output h (s .0) (s .1) k
 
     pub compose-told : (lines : List ℕ)
-        → (w ≡ writtenOf (within (length output) (composed (compose lines)))) × (bytes ≡ filled (bytesOf (within (length output) (composed (compose lines)))) output)
-        → SaysWritten (composingWith (length output) result lines) output result (w .number) bytes new
+        → (w ≡ writtenOf (within (length output) (composed (compose lines)))) × (bytes ≡ filled (written (within (length output) (composed (compose lines)))) output)
+        → SaysWritten (composingWith (length output) result lines) output result (w .verdict .number) bytes new
     unfolding composingWith
     compose-told lines s = roomy-written (within (length output) (composed (compose lines))) output h (s .0) (s .1) k
 
   module _ (h : 4 ≤ length result) {s : Spot} {new : List ℕ} (k : new ≡ told (spotFigures s) result) where
-    roomy-spot : (t : Spot) → s ≡ t → SaysSpot (ifPlaced (leb 4 (length result)) t) result (s .number) new
+    roomy-spot : (t : Spot) → s ≡ t → SaysSpot (ifPlaced (leb 4 (length result)) t) result (s .verdict .number) new
     roomy-spot t e =
-        subst (λ b. SaysSpot (ifPlaced b t) result (s .number) new) (sym (le-leb 4 (length result) h))
-        (ap (λ (x : Spot). x .number) e, k ∙ ap (λ (x : Spot). told (spotFigures x) result) e)
+        subst (λ b. SaysSpot (ifPlaced b t) result (s .verdict .number) new) (sym (le-leb 4 (length result) h))
+        (ap (λ (x : Spot). x .verdict .number) e, k ∙ ap (λ (x : Spot). told (spotFigures x) result) e)
 
-    pub find-told : (file : List ℕ) (n : ℕ) → s ≡ findAt file n → SaysSpot (findingWith result file n) result (s .number) new
+    pub find-told : (file : List ℕ) (n : ℕ) → s ≡ findAt file n → SaysSpot (findingWith result file n) result (s .verdict .number) new
     unfolding findingWith
     find-told file n e = roomy-spot (findAt file n) e
 
-    pub text-told : (file : List ℕ) (start wanted : ℕ) → s ≡ locateAt file start (textNamed wanted) → SaysSpot (locatingWith result file start wanted) result (s .number) new
+    pub text-told : (file : List ℕ) (start wanted : ℕ) → s ≡ locateAt file start (textNamed wanted) → SaysSpot (locatingWith result file start wanted) result (s .verdict .number) new
     unfolding locatingWith
     text-told file start wanted e = roomy-spot (locateAt file start (textNamed wanted)) e

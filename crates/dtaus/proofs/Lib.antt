@@ -1,4 +1,4 @@
 pub mod TellingLaws
 pub mod NamingLaws
 pub mod CallLaws
-pub mod Answers
+pub mod Promises

@@ -4,7 +4,7 @@ use Prim.Native.Nat.{ℕ, zero, suc, _-_}
 use native.Mathlib.Omega.{arith}
 use mathlib.Core.Path.{_≡_, refl, sym, ap}
 use mathlib.Core.Logic.{_≢_}
-use Rattle.spots.specs.declared.Wanted.the-variants.{C14a, C15, C16, Part as PartText}
+use Rattle.finder.specs.declared.Wanted.the-variants.{C14a, C15, C16, Part as PartText}
 use Rattle.dtaus.specs.Calls.{textNamed}
 
 module _ {n : ℕ} where

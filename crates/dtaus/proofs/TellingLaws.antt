@@ -7,7 +7,7 @@ use mathlib.Core.Bool.{cond}
 use mathlib.Core.List.{List, [], _∷_}
 use lib.ListN.{length, set}
 use borrow.Author.Tests.{le-leb, lt-leb}
-use Rattle.rules.specs.Answer.{filled}
+use Rattle.verdict.specs.Lent.{filled}
 use Rattle.dtaus.specs.Figures.{told}
 
 module _ (figures result : List ℕ) where

@@ -4,15 +4,16 @@ use mathlib.Core.Bool.{Bool, cond}
 use mathlib.Core.List.{List}
 use lib.ListN.{length}
 use lib.Dec.{leb, eqb}
-use Rattle.rules.specs.Values.{Payment}
-use Rattle.rules.specs.Answer.{answer, outcome, Outcome}
+use Rattle.verdict.specs.Verdicts.{refusing}
+use Rattle.document.specs.Values.{Payment}
+use Rattle.diskette.specs.Answer.{answer, outcome, Outcome, paymentsOf}
 use Rattle.listing.specs.Composing.{compose}
 use Rattle.listing.specs.Endings.{Ending, refuses, listed, composed, within}
-use Rattle.columns.specs.Loading.{ifRoom, loading, ifLoaded, paymentsOf}
-use Rattle.spots.specs.declared.Wanted.{Wanted}
-use Rattle.spots.specs.declared.Wanted.the-variants.{C14a, C15, C16, Part as PartText}
-use Rattle.spots.specs.declared.Spot.{Spot}
-use Rattle.spots.specs.Spots.{refusing, findAt, locateAt}
+use Rattle.loader.specs.Loading.{ifRoom, loading, ifLoaded}
+use Rattle.finder.specs.declared.Wanted.{Wanted}
+use Rattle.finder.specs.declared.Wanted.the-variants.{C14a, C15, C16, Part as PartText}
+use Rattle.finder.specs.declared.Spot.{Spot}
+use Rattle.finder.specs.Spots.{nowhere, findAt, locateAt}
 
 -- the result has room for so many figures
 abbrev pub roomFor : ℕ → List ℕ → Bool
@@ -33,7 +34,7 @@ rowsOf number file = ifLoaded (eqb number 0) (paymentsOf (answer file))
 -- ---- a listing and a composing, with an output of so much room
 
 abbrev pub ifTold : Bool → Ending → Ending
-ifTold told end = cond told end (refuses 16 0)
+ifTold told end = cond told end (refuses (refusing 16 0))
 
 unfoldable pub listingWith : ℕ → List ℕ → List ℕ → Ending
 listingWith room result file = ifTold (roomFor 3 result) (within room (listed (answer file)))
@@ -44,7 +45,7 @@ composingWith room result lines = ifTold (roomFor 3 result) (within room (compos
 -- ---- stretches of the file
 
 abbrev pub ifPlaced : Bool → Spot → Spot
-ifPlaced told spot = cond told spot (refusing 16 0)
+ifPlaced told spot = cond told spot (nowhere (refusing 16 0))
 
 unfoldable pub findingWith : List ℕ → List ℕ → ℕ → Spot
 findingWith result file n = ifPlaced (roomFor 4 result) (findAt file n)

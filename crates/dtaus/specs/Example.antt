@@ -3,10 +3,10 @@ use Prim.Native.Nat.{ℕ}
 use mathlib.Core.Path.{_≡_, refl}
 use mathlib.Core.List.{List, [], _∷_, map}
 use lib.ListN.{replicate}
-use Rattle.rules.specs.Cases.{fileM, put, given}
-use Rattle.spots.specs.declared.Wanted.the-variants.{C14a, C15, C16, Part as PartText}
-use Rattle.spots.specs.Texts.{begunAt}
-use Rattle.spots.specs.Spots.{findAt, finding, locateAt, locating}
+use Rattle.diskette.specs.Cases.{fileM, put, given}
+use Rattle.finder.specs.declared.Wanted.the-variants.{C14a, C15, C16, Part as PartText}
+use Rattle.finder.specs.Texts.{begunAt}
+use Rattle.finder.specs.Spots.{findAt, finding, locateAt, locating}
 use Rattle.dtaus.specs.Figures.{outcomeFigures, spotFigures, told}
 use Rattle.dtaus.specs.Calls.{checking, findingWith, textNamed, locatingWith}
 
@@ -27,7 +27,7 @@ pub refused : checked (sevens 6) (put 172 "05" fileM) ≡ 12 ∷ 172 ∷ 0 ∷ 0
 unfolding told checking given
 refused = refl
 
-pub no-room : (checking (sevens 5) fileM .number ≡ 16) × (checked (sevens 5) fileM ≡ sevens 5)
+pub no-room : (checking (sevens 5) fileM .verdict .number ≡ 16) × (checked (sevens 5) fileM ≡ sevens 5)
 unfolding told checking given
 no-room = (refl, refl)
 

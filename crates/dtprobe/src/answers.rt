@@ -12,14 +12,14 @@ const MOST_ROWS: usize = 256;
 
 fn check(input: &[u8]) -> bool {
     let r = checker::check(input);
-    printing::outcome(r.number, r.place, r.count, r.sums);
+    printing::outcome(r);
     true
 }
 
 // Loads into columns of just those lengths.
 fn load_into(s: &[u8], c4: &mut [u64], c5: &mut [u64], c12: &mut [u64], start: &mut [u64]) {
-    let r = columns::load(s, c4, c5, c12, start);
-    printing::outcome(r.number, r.place, r.count, r.sums);
+    let r = loader::load(s, c4, c5, c12, start);
+    printing::outcome(r);
     printing::rows(c4);
     printing::rows(c5);
     printing::rows(c12);
@@ -54,14 +54,14 @@ fn load(head: &[u8; HEAD], input: &[u8]) -> bool {
 
 // Where a payment stands.
 fn find(head: &[u8; HEAD], input: &[u8]) -> bool {
-    let spot = spots::find(input, index_at(head, 1));
+    let spot = finder::find(input, index_at(head, 1));
     printing::spot(spot);
     true
 }
 
 // Where a text stands of the payment that begins at a start.
 fn locate(head: &[u8; HEAD], input: &[u8]) -> bool {
-    let spot = spots::locate(input, index_at(head, 1), wanted(head));
+    let spot = finder::locate(input, index_at(head, 1), wanted(head));
     printing::spot(spot);
     true
 }
@@ -69,9 +69,9 @@ fn locate(head: &[u8; HEAD], input: &[u8]) -> bool {
 // A view of a payment is made, and a text handed out of it.
 fn view_of(head: &[u8; HEAD], input: &[u8]) -> bool {
     let n = index_at(head, 1);
-    let why = view::refusal_of(input, n, wanted(head));
+    let v = view::verdict_of(input, n, wanted(head));
     let text = view::text_of(input, n, wanted(head));
-    printing::text(why, text);
+    printing::text(v, text);
     true
 }
 

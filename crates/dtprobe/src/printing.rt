@@ -1,9 +1,10 @@
 // Printing an answer: lines of numbers, and what a lent slice holds.
-use fields::Refusal;
+use checker::Checked;
+use finder::Spot;
 use libc::STDOUT_FILENO;
-use pen::Written;
-use spots::Spot;
+use output::Written;
 use sums::Sums;
+use verdict::Verdict;
 
 fn number_then(n: u64, mark: u8) {
     io::print_decimal(STDOUT_FILENO, n);
@@ -14,23 +15,29 @@ fn line_end() {
     io::write_all(STDOUT_FILENO, b"\n");
 }
 
+// Number and place, and the line goes on.
+fn number_and_place(v: Verdict) {
+    number_then(v.number as u64, b'\t');
+    number_then(v.place as u64, b'\t');
+}
+
+// The three totals, and the line ends.
+fn totals(sums: Sums) {
+    number_then(sums.accounts.0, b'\t');
+    number_then(sums.banks.0, b'\t');
+    number_then(sums.cents.0, b'\n');
+}
+
 // Number and place, the count, and the three totals.
-pub(crate) fn outcome(number: u8, place: usize, count: u64, sums: Sums) {
-    number_then(number as u64, b'\t');
-    number_then(place as u64, b'\t');
-    number_then(count, b'\t');
-    let accounts = sums.accounts;
-    let banks = sums.banks;
-    let cents = sums.cents;
-    number_then(accounts.0, b'\t');
-    number_then(banks.0, b'\t');
-    number_then(cents.0, b'\n');
+pub(crate) fn outcome(checked: Checked) {
+    number_and_place(checked.verdict);
+    number_then(checked.count, b'\t');
+    totals(checked.sums);
 }
 
 // Number and place, the length written; then the whole output.
 pub(crate) fn written(w: Written, out: &[u8]) {
-    number_then(w.number as u64, b'\t');
-    number_then(w.place as u64, b'\t');
+    number_and_place(w.verdict);
     number_then(w.length as u64, b'\n');
     io::write_all(STDOUT_FILENO, out);
     line_end();
@@ -48,16 +55,14 @@ pub(crate) fn rows(column: &[u64]) {
 
 // Number and place, and where a stretch of the file begins and ends.
 pub(crate) fn spot(s: Spot) {
-    number_then(s.number as u64, b'\t');
-    number_then(s.place as u64, b'\t');
+    number_and_place(s.verdict);
     number_then(s.from as u64, b'\t');
     number_then(s.to as u64, b'\n');
 }
 
 // Number and place, the length of a text; then the text.
-pub(crate) fn text(why: Refusal, t: &[u8]) {
-    number_then(why.number as u64, b'\t');
-    number_then(why.place as u64, b'\t');
+pub(crate) fn text(v: Verdict, t: &[u8]) {
+    number_and_place(v);
     number_then(t.len() as u64, b'\n');
     io::write_all(STDOUT_FILENO, t);
     line_end();

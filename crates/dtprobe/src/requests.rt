@@ -1,8 +1,8 @@
 // Reading a request: the numbers of its head line, and the content of the slices that it lends.
 ghost use Rattle.io.specs.Counts.{Counts};
 use fields::Number;
+use finder::Wanted;
 use libc::STDIN_FILENO;
-use spots::Wanted;
 
 // The bytes of a head line.
 pub(crate) const HEAD: usize = 37;

@@ -8,7 +8,6 @@ use Rattle.form.specs.Kind.{Kind, Value, width}
 use Rattle.form.specs.Form.{Rule, Form, field}
 use Rattle.form.specs.Reader.{Look, has, lacks}
 use Rattle.form.specs.Place.{lookAt, fieldAt, Read, done}
-use Rattle.rules.specs.Fields.{Name}
 use Rattle.fields.specs.declared.Refusal.{Refusal}
 use Rattle.fields.specs.declared.Passed.{Passed}
 use Rattle.fields.specs.declared.Passed.the-variants as passed
@@ -85,7 +84,7 @@ module _ {a : MaybeNumber} (p n : ℕ) (l : Look (Option ℕ)) (told : a ≡ ofF
 
 -- ---- on the walk: a field of which no value is kept
 
-module _ {A R : Type 0} {t : Telling A R} {f : List ℕ} {g : R} {ν : Name} {κ : Kind} {next : Value κ → Form Name A} {p : ℕ} where
+module _ {A R N : Type 0} {t : Telling A R} {f : List ℕ} {g : R} {ν : N} {κ : Kind} {next : Value κ → Form N A} {p : ℕ} where
   module _ (w : Walk t f g (field ν κ (λ v. []) next) p) {a : Passed} where
     pub pass : {q : ℕ} → a ≡ ofField passings p (p + width κ) (lookAt κ f p) → a ≡ passed.To q → On w q
     pass told given = let s = passed-to _ _ _ told given in (s.0, past w (s.1, s.2))
@@ -103,7 +102,7 @@ module _ {A R : Type 0} {t : Telling A R} {f : List ℕ} {g : R} {ν : Name} {κ
 -- ---- a form that another reader has read
 
 -- and of which nothing is kept
-pub passed-form : {B : Type 0} {a : Passed} (x : Read Name B) → a ≡ ofRead passings x → {q : ℕ} → a ≡ passed.To q → (b : B) × (x ≡ done b q)
+pub passed-form : {B N : Type 0} {a : Passed} (x : Read N B) → a ≡ ofRead passings x → {q : ℕ} → a ≡ passed.To q → (b : B) × (x ≡ done b q)
 passed-form x told {q} given =
     let s = reads passings-told x told (passed.To q) (λ r e. zero-one cc) given in
     let e = s .given in
@@ -111,7 +110,7 @@ passed-form x told {q} given =
     (s .value, s .done ∙ ap (done (s .value)) i)
 
 -- and which says a number
-pub number-form : (x : Read Name ℕ) {a : Number} → a ≡ ofRead numbers x → {v q : ℕ} → a ≡ number.Is v q → x ≡ done v q
+pub number-form : {N : Type 0} (x : Read N ℕ) {a : Number} → a ≡ ofRead numbers x → {v q : ℕ} → a ≡ number.Is v q → x ≡ done v q
 number-form x told {v} {q} given =
     let r = reads numbers-told x told (number.Is v q) (λ r e. zero-one cc) given in
     let e = r .given in

@@ -10,7 +10,7 @@ use lib.Seq.{drop-cons}
 use lib.Dec.{eqb}
 use Rattle.form.specs.Kind.{choice}
 use Rattle.form.specs.Reader.{not-fixed, ifSo, judge}
-use Rattle.rules.specs.Rules.{fileKinds}
+use Rattle.document.specs.Rules.{fileKinds}
 use Rattle.fields.specs.Answers.{kindOf}
 use Rattle.fields.proofs.LeafLaws.{eqb-turn}
 use Rattle.fields.proofs.StretchLaws.{and-true}

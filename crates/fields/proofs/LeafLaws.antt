@@ -1,20 +1,20 @@
 -- A field at a place: whole or not, then what its bytes tell; and the leaf that looks at the rules too.
 use Prim.Native.Nat.{ℕ, _+_, _≤_}
 use native.Mathlib.Omega.{arith}
-use mathlib.Core.Path.{_≡_, refl, sym}
-use mathlib.Core.Bool.{Bool, true, false, cond}
+use mathlib.Core.Path.{_≡_, refl, sym, _∙_}
+use mathlib.Core.Bool.{Bool, true, false, not}
 use mathlib.Core.List.{List, [], _∷_}
 use lib.ListN.{length, take, drop, length-drop, replicate}
 use lib.Seq.{length-take-le}
 use lib.Dec.{leb, eqb}
-use borrow.Author.Tests.{leb-true, leb-false, eq-eqb, ne-eqb, eqb-true, eqb-false}
+use borrow.Author.Tests.{leb-true, leb-false, eq-eqb, ne-eqb, eqb-true, eqb-false, not-false}
 use Rattle.form.specs.Kind.{Kind, fixed, maybe, Value, width, every, same}
-use Rattle.form.specs.Form.{Rule, rule}
+use Rattle.form.specs.Form.{Rule}
 use Rattle.form.specs.Reader.{Reason, short, not-fixed, not-sign, breaks, has, lacks, ifSo, optional, judge, obey}
 use Rattle.form.specs.Place.{lookAt, fieldAt}
-use Rattle.rules.specs.Signs.{sign}
-use Rattle.rules.specs.Fields.{text27}
-use Rattle.rules.specs.Answer.{numberOf}
+use Rattle.document.specs.Signs.{sign}
+use Rattle.diskette.specs.Fields.{text27}
+use Rattle.verdict.specs.Verdicts.{numberOf}
 use Rattle.fields.specs.declared.Refusal.{Refusal}
 use Rattle.fields.specs.Answers.{refusalOf, refusalAt, Telling, ofField}
 use Rattle.fields.proofs.WalkLaws.{Fails}
@@ -53,6 +53,10 @@ module _ {R : Type 0} (κ : Kind) (t : Telling (Value κ) R) (s : List ℕ) (p w
   pub leaf-right : leb (p + w) (length s) ≡ true → (v : Value κ) → judge κ (take w (drop p s)) ≡ has v → t .gives v q ≡ ofField t p q (lookAt κ s p)
   unfolding ofField
   leaf-right e v j = rw (is-whole κ s p w wide e, j)
+
+-- a test said that w bytes from p on are whole
+pub whole-inside : (p w n : ℕ) {r : Bool} → r ≡ leb (p + w) n → not r ≡ false → p + w ≤ n
+whole-inside p w n {r} e f = leb-true (p + w) n (sym e ∙ not-false r f)
 
 -- the bytes of a whole field
 module _ (s : List ℕ) (p w : ℕ) (e : leb (p + w) (length s) ≡ true) where
@@ -107,10 +111,3 @@ module _ {R : Type 0} (κ : Kind) (t : Telling (Value κ) R) (rs : Value κ → 
   pub field-holds : {v : Value κ} → lookAt κ f p ≡ has v → obey (rs v) v ≡ has v → t .gives v q ≡ ofField t p q (fieldAt κ rs f p)
   unfolding ofField
   field-holds content kept = rw (content, kept)
-
-  -- the last rule decides, after those before it were kept
-  pub field-decides : (v : Value κ) (n : ℕ) (b : Bool) → lookAt κ f p ≡ has v → obey (rs v) v ≡ obey (rule n b ∷ []) v
-      → cond b (t .gives v q) (t .refuses (refusalOf n p)) ≡ ofField t p q (fieldAt κ rs f p)
-  unfolding ofField numberOf
-  field-decides v n true content e = rw (content, e)
-  field-decides v n false content e = rw (content, e)

@@ -6,7 +6,7 @@ use mathlib.Core.Bool.{Bool, true, false, _&&_, _||_, not}
 use lib.Dec.{T, eqb, leb}
 use borrow.Author.Tests.{eqb-true, eqb-false}
 use Rattle.form.proofs.BoolLaws.{and-both}
-use Rattle.rules.specs.Signs.{sign}
+use Rattle.document.specs.Signs.{sign}
 
 -- as the code tests them
 abbrev pub ranges : ℕ → Bool

@@ -1,4 +1,4 @@
--- Code that reads a form field by field: where it stands, what it owes, and how a field or another reader takes it on or ends it.
+-- Code that reads a form field by field, whatever the names of its fields: where it stands, what it owes, and how a field or another reader takes it on or ends it.
 use Prim.Native.Nat.{ℕ, _+_}
 use mathlib.Core.Path.{_≡_, refl, sym, ap, _∙_}
 use mathlib.Core.List.{List, []}
@@ -8,7 +8,6 @@ use Rattle.form.specs.Reader.{Reason, Look, has, lacks, _then_}
 use Rattle.form.specs.Place.{lookAt, fieldAt, Read, done, halt, readAt, andThen}
 use Rattle.form.specs.Reader as reader
 use Rattle.form.proofs.PlaceLaws.{read-bind}
-use Rattle.rules.specs.Fields.{Name}
 use Rattle.fields.specs.declared.Refusal.{Refusal}
 use Rattle.fields.specs.Answers.{refusalAt, Telling, ofField, ofRead}
 
@@ -51,20 +50,20 @@ module _ {X R : Type 0} {t : Telling X R} {why : R → Refusal} (k : Told t why)
 -- ---- the walk through a form
 
 -- the code has come to place p of the file f, and owes g: what the fields of m from there on give
-pub record Walk {A R : Type 0} (t : Telling A R) (f : List ℕ) (g : R) (m : Form Name A) (p : ℕ) : Type 0 where
+pub record Walk {A R N : Type 0} (t : Telling A R) (f : List ℕ) (g : R) (m : Form N A) (p : ℕ) : Type 0 where
   pub owed : g ≡ ofRead t (readAt m f p)
 
 -- the value of a form's first field, and the form behind that value
-abbrev pub First : {A : Type 0} → Form Name A → Type 0
+abbrev pub First : {A N : Type 0} → Form N A → Type 0
 First (ret a) = Unit {0}
 First (field ν κ rs next) = Value κ
 
-abbrev pub behind : {A : Type 0} (m : Form Name A) → First m → Form Name A
+abbrev pub behind : {A N : Type 0} (m : Form N A) → First m → Form N A
 behind (ret a) v = ret a
 behind (field ν κ rs next) v = next v
 
 -- the walk goes on at place q, behind a field of the value v
-abbrev pub Next : {A R : Type 0} {t : Telling A R} {f : List ℕ} {g : R} {m : Form Name A} {p : ℕ} → Walk t f g m p → First m → ℕ → Type 0
+abbrev pub Next : {A R N : Type 0} {t : Telling A R} {f : List ℕ} {g : R} {m : Form N A} {p : ℕ} → Walk t f g m p → First m → ℕ → Type 0
 Next {t = t} {f = f} {g = g} {m = m} w v q = Walk t f g (behind m v) q
 
 -- a field without rules of its own
@@ -72,16 +71,16 @@ plain : {X : Type 0} (l : Look X) → _then_ l (λ v. has v) ≡ l
 plain (has v) = refl
 plain (lacks z) = refl
 
-module _ {A R : Type 0} {t : Telling A R} {f : List ℕ} where
-  pub start : (m : Form Name A) (p : ℕ) → Walk t f (ofRead t (readAt m f p)) m p
+module _ {A R N : Type 0} {t : Telling A R} {f : List ℕ} where
+  pub start : (m : Form N A) (p : ℕ) → Walk t f (ofRead t (readAt m f p)) m p
   start m p = record { owed = refl }
 
-  pub finish : {g : R} {a : A} {q : ℕ} → Walk t f g (ret a) q → t .gives a q ≡ g
+  pub finish : {g : R} {a : A} {q : ℕ} → Walk {N = N} t f g (ret a) q → t .gives a q ≡ g
   unfolding readAt ofRead
   finish w = sym (w .owed)
 
   -- a field whose leaf has looked at its rules
-  module _ {g : R} {ν : Name} {κ : Kind} {rs : Value κ → List Rule} {next : Value κ → Form Name A} {p : ℕ} (w : Walk t f g (field ν κ rs next) p) where
+  module _ {g : R} {ν : N} {κ : Kind} {rs : Value κ → List Rule} {next : Value κ → Form N A} {p : ℕ} (w : Walk t f g (field ν κ rs next) p) where
     pub past-ruled : {v : Value κ} {q : ℕ} → (fieldAt κ rs f p ≡ has v) × (q ≡ p + width κ) → Walk t f g (next v) q
     unfolding readAt
     past-ruled s = record { owed = w .owed ∙ rw (s.0, s.1) }
@@ -91,7 +90,7 @@ module _ {A R : Type 0} {t : Telling A R} {f : List ℕ} where
     stopped-ruled x = rw (x .refusal) (sym (w .owed ∙ rw (x .lack)))
 
   -- a field without rules
-  module _ {g : R} {ν : Name} {κ : Kind} {next : Value κ → Form Name A} {p : ℕ} (w : Walk t f g (field ν κ (λ v. []) next) p) where
+  module _ {g : R} {ν : N} {κ : Kind} {next : Value κ → Form N A} {p : ℕ} (w : Walk t f g (field ν κ (λ v. []) next) p) where
     pub past : {v : Value κ} {q : ℕ} → (lookAt κ f p ≡ has v) × (q ≡ p + width κ) → Walk t f g (next v) q
     past s = past-ruled w (plain (lookAt κ f p) ∙ s.0, s.1)
 
@@ -101,10 +100,10 @@ module _ {A R : Type 0} {t : Telling A R} {f : List ℕ} where
 -- ---- the answer of a leaf, on the walk
 
 -- the walk goes on at place q, behind a field of some value
-abbrev pub On : {A R : Type 0} {t : Telling A R} {f : List ℕ} {g : R} {m : Form Name A} {p : ℕ} → Walk t f g m p → ℕ → Type 0
+abbrev pub On : {A R N : Type 0} {t : Telling A R} {f : List ℕ} {g : R} {m : Form N A} {p : ℕ} → Walk t f g m p → ℕ → Type 0
 On {m = m} w q = (v : First m) × Next w v q
 
-module _ {A R : Type 0} {t : Telling A R} {f : List ℕ} {g : R} {ν : Name} {κ : Kind} {next : Value κ → Form Name A} {p : ℕ} where
+module _ {A R N : Type 0} {t : Telling A R} {f : List ℕ} {g : R} {ν : N} {κ : Kind} {next : Value κ → Form N A} {p : ℕ} where
   module _ {S : Type 0} {u : Telling (Value κ) S} {why : S → Refusal} (k : Told u why) {a : S} (n : ℕ) {x : Refusal} where
     -- the leaf's refusal is handed on
     pub stop : (w : Walk t f g (field ν κ (λ v. []) next) p) → a ≡ ofField u p n (lookAt κ f p) → a ≡ u .refuses x → {r : Refusal} → r ≡ why a → t .refuses r ≡ g
@@ -114,7 +113,7 @@ module _ {A R : Type 0} {t : Telling A R} {f : List ℕ} {g : R} {ν : Name} {κ
     stop-ruled {rs} w told given e = stopped-ruled w (fails k p n (fieldAt κ rs f p) told given e)
 
 -- the last field: the leaf's answer is the reader's
-module _ {A R : Type 0} {t : Telling A R} {f : List ℕ} {g : R} {ν : Name} {κ : Kind} {h : Value κ → A} {p : ℕ} (u : Telling (Value κ) R)
+module _ {A R N : Type 0} {t : Telling A R} {f : List ℕ} {g : R} {ν : N} {κ : Kind} {h : Value κ → A} {p : ℕ} (u : Telling (Value κ) R)
     (gives : (v : Value κ) (q : ℕ) → u .gives v q ≡ t .gives (h v) q) (refuses : (x : Refusal) → u .refuses x ≡ t .refuses x) where
   pub last-ruled : {rs : Value κ → List Rule} → Walk t f g (field ν κ rs (λ v. ret (h v))) p → ofField u p (p + width κ) (fieldAt κ rs f p) ≡ g
   unfolding ofField ofRead readAt
@@ -130,31 +129,31 @@ module _ {A R : Type 0} {t : Telling A R} {f : List ℕ} {g : R} {ν : Name} {κ
 -- ---- a form that another reader reads
 
 -- the other has read it, and y is the answer that gives it
-pub record Reads {B S : Type 0} (u : Telling B S) (x : Read Name B) (y : S) : Type 0 where
+pub record Reads {B S N : Type 0} (u : Telling B S) (x : Read N B) (y : S) : Type 0 where
   pub value : B
   pub place : ℕ
   pub done : x ≡ done value place
   pub given : y ≡ u .gives value place
 
-module _ {B S : Type 0} {u : Telling B S} {why : S → Refusal} (k : Told u why) {a : S} (x : Read Name B) (told : a ≡ ofRead u x) where
+module _ {B S N : Type 0} {u : Telling B S} {why : S → Refusal} (k : Told u why) {a : S} (x : Read N B) (told : a ≡ ofRead u x) where
   pub reads : (y : S) → ((r : Refusal) → y ≡ u .refuses r → ⊥) → a ≡ y → Reads u x y
   unfolding ofRead
   reads y not given = by x (sym told ∙ given)
     where
-      by : (x : Read Name B) → ofRead u x ≡ y → Reads u x y
+      by : (x : Read N B) → ofRead u x ≡ y → Reads u x y
       by (done b q) e = record { value = b; place = q; done = refl; given = sym e }
       by (halt r) e = absurd (not (refusalAt (r .reason) (r .place)) (sym e))
 
   -- or has refused it, and r is the refusal
-  pub halts : {y r : Refusal} → a ≡ u .refuses y → r ≡ why a → (z : reader.Refusal Name) × (x ≡ halt z) × (r ≡ refusalAt (z .reason) (z .place))
+  pub halts : {y r : Refusal} → a ≡ u .refuses y → r ≡ why a → (z : reader.Refusal N) × (x ≡ halt z) × (r ≡ refusalAt (z .reason) (z .place))
   unfolding ofRead
   halts {y} {r} given e = by x (sym told ∙ given)
     where
-      by : (x : Read Name B) → ofRead u x ≡ u .refuses y → (z : reader.Refusal Name) × (x ≡ halt z) × (r ≡ refusalAt (z .reason) (z .place))
+      by : (x : Read N B) → ofRead u x ≡ u .refuses y → (z : reader.Refusal N) × (x ≡ halt z) × (r ≡ refusalAt (z .reason) (z .place))
       by (done b q) i = absurd (k .apart b q y i)
       by (halt z) i = (z, refl, e ∙ ap why (given ∙ sym i) ∙ k .same (refusalAt (z .reason) (z .place)))
 
-module _ {A R : Type 0} {t : Telling A R} {f : List ℕ} {B : Type 0} {g : R} (m : Form Name B) (k : B → Form Name A) {p : ℕ} (w : Walk t f g (m >>= k) p) where
+module _ {A R N : Type 0} {t : Telling A R} {f : List ℕ} {B : Type 0} {g : R} (m : Form N B) (k : B → Form N A) {p : ℕ} (w : Walk t f g (m >>= k) p) where
   pub past-part : {b : B} {q : ℕ} → readAt m f p ≡ done b q → Walk t f g (k b) q
   past-part e = record { owed = w .owed ∙ rw (read-bind m k f p, e) }
 
@@ -167,12 +166,12 @@ module _ {A R : Type 0} {t : Telling A R} {f : List ℕ} {B : Type 0} {g : R} (m
       rw (h.2) (sym (w .owed ∙ ap (ofRead t) (read-bind m k f p ∙ ap (λ y. andThen y (λ a q. readAt (k a) f q)) h.1)))
 
 -- another value of what was read, and another answer for it
-pub retold : {A B R : Type 0} (t : Telling B R) (u : Telling A R) {f : List ℕ} {g : R} (m : Form Name A) (h : A → B) {p : ℕ}
+pub retold : {A B R N : Type 0} (t : Telling B R) (u : Telling A R) {f : List ℕ} {g : R} (m : Form N A) (h : A → B) {p : ℕ}
     → ((a : A) (q : ℕ) → t .gives (h a) q ≡ u .gives a q) → ((x : Refusal) → t .refuses x ≡ u .refuses x)
     → Walk t f g (m >>= λ a. ret (h a)) p → Walk u f g m p
 unfolding readAt ofRead
-retold {A} {B} t u {f} m h {p} gives refuses w = record { owed = w .owed ∙ ap (ofRead t) (read-bind m (λ a. ret (h a)) f p) ∙ by (readAt m f p) }
+retold {A} {B} {N = N} t u {f} m h {p} gives refuses w = record { owed = w .owed ∙ ap (ofRead t) (read-bind m (λ a. ret (h a)) f p) ∙ by (readAt m f p) }
   where
-    by : (x : Read Name A) → ofRead t (andThen x (λ a q. done (h a) q)) ≡ ofRead u x
+    by : (x : Read N A) → ofRead t (andThen x (λ a q. done (h a) q)) ≡ ofRead u x
     by (done a q) = gives a q
     by (halt r) = refuses (refusalAt (r .reason) (r .place))

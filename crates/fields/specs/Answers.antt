@@ -5,10 +5,9 @@ use mathlib.Core.List.{List, _++_}
 use mathlib.Core.Option.{Option, none, some}
 use Rattle.form.specs.Reader.{Reason, Look, has, lacks}
 use Rattle.form.specs.Place.{Read, done, halt}
-use Rattle.rules.specs.Signs.{ascii}
-use Rattle.rules.specs.Rules.{beginsWithG, endsInK}
-use Rattle.rules.specs.Fields.{Name}
-use Rattle.rules.specs.Answer.{numberOf}
+use Rattle.document.specs.Signs.{ascii}
+use Rattle.document.specs.Rules.{beginsWithG, endsInK}
+use Rattle.verdict.specs.Verdicts.{numberOf}
 use Rattle.fields.specs.declared.Refusal.{Refusal}
 use Rattle.fields.specs.declared.Passed.{Passed}
 use Rattle.fields.specs.declared.Passed.the-variants as passed
@@ -37,8 +36,8 @@ unfoldable pub ofField : {X R : Type 0} → Telling X R → ℕ → ℕ → Look
 ofField t p q (has v) = t .gives v q
 ofField t p q (lacks z) = t .refuses (refusalAt z p)
 
--- of a form that was read
-unfoldable pub ofRead : {A R : Type 0} → Telling A R → Read Name A → R
+-- of a form that was read, whatever the names of its fields
+unfoldable pub ofRead : {A R N : Type 0} → Telling A R → Read N A → R
 ofRead t (done a q) = t .gives a q
 ofRead t (halt r) = t .refuses (refusalAt (r .reason) (r .place))
 

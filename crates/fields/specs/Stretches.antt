@@ -1,11 +1,11 @@
--- What the bytes of a whole field tell.
+-- What the bytes of a whole field tell. Only private functions go by this, but for the widest number, which the public ones cite too.
 use Prim.Native.Nat.{ℕ}
 use mathlib.Core.Bool.{cond}
 use mathlib.Core.List.{List}
 use lib.Dec.{eqb}
 use Rattle.form.specs.Kind.{every, digit}
 use Rattle.form.specs.Reader.{number}
-use Rattle.rules.specs.Signs.{sign}
+use Rattle.document.specs.Signs.{sign}
 use Rattle.fields.specs.declared.Digits.{Digits}
 use Rattle.fields.specs.declared.Digits.the-variants.{Are, Not}
 use Rattle.fields.specs.declared.Signs.{Signs}

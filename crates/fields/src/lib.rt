@@ -5,15 +5,15 @@ ghost use lib.ListN.{length, replicate};
 ghost use lib.Dec.{leb, eqb};
 ghost use Rattle.form.specs.Kind.{fixed, digits, maybe, choice, every, same, blanks};
 ghost use Rattle.form.specs.Place.{lookAt, fieldAt};
-ghost use Rattle.rules.specs.Signs.{zeros, sign};
-ghost use Rattle.rules.specs.Rules.{fileKinds};
-ghost use Rattle.rules.specs.Fields.{text27, rulesOfNames};
+ghost use Rattle.document.specs.Signs.{zeros, sign};
+ghost use Rattle.document.specs.Rules.{fileKinds};
+ghost use Rattle.diskette.specs.Fields.{text27, rulesOfNames};
 ghost use Rattle.fields.specs.Answers.{refusalOf, ofField, passings, passedWhy, numbers, numberWhy, maybeNumbers, kinds, kindWhy};
 ghost use Rattle.fields.specs.Stretches.{widest, digitsOf, signsOf};
+use layout::width;
 
 pub mod fixed;
-pub mod lengths;
-pub mod numbers;
+pub mod refusals;
 
 // Why a file is refused: the number, and the first byte of the field.
 pub struct Refusal {
@@ -56,7 +56,7 @@ pub enum KindRead {
     Is(FileKind, usize),
 }
 
-// The one place where a refusal is made.
+// Where the refusals of all leaves and readers are made.
 pub fn refuse(number: u8, place: usize) -> Refusal
     ensures { λ r. ⌜ r ≡ refusalOf number place ⌝ }
 {
@@ -177,7 +177,11 @@ struct Signs {
     blank: bool,
 }
 
-// The 27 bytes are tested in two halves of 16, which share five: so each half is one step of a processor's vector unit.
+// A text is tested in two halves of 16 bytes, which share five: so each half is one step of a processor's vector unit.
+const HALF: usize = 16;
+
+const SECOND_HALF: usize = width::TEXT - HALF;
+
 fn signs_of(f: &[u8]) -> Signs
     requires { ⌜ length (now f) ≡ 27 ⌝ }
     ensures { λ r. ⌜ r ≡ signsOf (now (f .entry)) ⌝ }
@@ -185,9 +189,9 @@ fn signs_of(f: &[u8]) -> Signs
     let mut permitted = true;
     let mut blank = true;
     let mut i = 0;
-    while i < 16 {
+    while i < HALF {
         let b = f[i];
-        let c = f[i + 11];
+        let c = f[i + SECOND_HALF];
         permitted = permitted & (is_sign(b) & is_sign(c));
         blank = blank & ((b == b' ') & (c == b' '));
         i += 1;
@@ -204,11 +208,11 @@ pub fn fixed_at(s: &[u8], p: usize, want: &[u8]) -> Passed
 {
     let w = want.len();
     if !whole(s.len(), p, w) {
-        return Passed::Refused(refuse(numbers::SHORT, p));
+        return Passed::Refused(refuse(refusals::SHORT, p));
     }
     let q = p + w;
     if !same_bytes(&s[p..q], want) {
-        return Passed::Refused(refuse(numbers::NOT_FIXED, p));
+        return Passed::Refused(refuse(refusals::NOT_FIXED, p));
     }
     Passed::To(q)
 }
@@ -218,11 +222,11 @@ fn fill_at(s: &[u8], p: usize, w: usize, b: u8) -> Passed
     ensures { λ r. ⌜ r ≡ ofField passings p (p + w) (lookAt (fixed (replicate w b)) (now (s .entry)) p) ⌝ }
 {
     if !whole(s.len(), p, w) {
-        return Passed::Refused(refuse(numbers::SHORT, p));
+        return Passed::Refused(refuse(refusals::SHORT, p));
     }
     let q = p + w;
     if !all_are(&s[p..q], b) {
-        return Passed::Refused(refuse(numbers::NOT_FIXED, p));
+        return Passed::Refused(refuse(refusals::NOT_FIXED, p));
     }
     Passed::To(q)
 }
@@ -241,14 +245,16 @@ pub fn zeros_at(s: &[u8], p: usize, w: usize) -> Passed
     fill_at(s, p, w, b'0')
 }
 
-// No number of the form has more than 17 digits.
+// No number of the form has more digits than the sums of E.
+const WIDEST: usize = width::E6;
+
 fn narrow(w: usize) -> usize
     ensures { λ r. ⌜ r ≡ min w widest ⌝ }
 {
-    if w < 17 {
+    if w < WIDEST {
         return w;
     }
-    17
+    WIDEST
 }
 
 // A number of w digits at p; 17 where w is more.
@@ -257,12 +263,12 @@ pub fn number_at(s: &[u8], p: usize, w: usize) -> Number
 {
     let n = narrow(w);
     if !whole(s.len(), p, n) {
-        return Number::Refused(refuse(numbers::SHORT, p));
+        return Number::Refused(refuse(refusals::SHORT, p));
     }
     let q = p + n;
     let f = digits_of(&s[p..q]);
     let Digits::Are(v) = f else {
-        return Number::Refused(refuse(numbers::NO_DIGIT, p));
+        return Number::Refused(refuse(refusals::NO_DIGIT, p));
     };
     Number::Is(v, q)
 }
@@ -273,7 +279,7 @@ pub fn maybe_number_at(s: &[u8], p: usize, w: usize) -> MaybeNumber
 {
     let n = narrow(w);
     if !whole(s.len(), p, n) {
-        return MaybeNumber::Refused(refuse(numbers::SHORT, p));
+        return MaybeNumber::Refused(refuse(refusals::SHORT, p));
     }
     let q = p + n;
     if all_are(&s[p..q], b' ') {
@@ -281,7 +287,7 @@ pub fn maybe_number_at(s: &[u8], p: usize, w: usize) -> MaybeNumber
     }
     let f = digits_of(&s[p..q]);
     let Digits::Are(v) = f else {
-        return MaybeNumber::Refused(refuse(numbers::NO_DIGIT, p));
+        return MaybeNumber::Refused(refuse(refusals::NO_DIGIT, p));
     };
     MaybeNumber::Is(v, q)
 }
@@ -290,13 +296,13 @@ pub fn maybe_number_at(s: &[u8], p: usize, w: usize) -> MaybeNumber
 pub fn text_at(s: &[u8], p: usize) -> Passed
     ensures { λ r. ⌜ r ≡ ofField passings p (p + 27) (lookAt text27 (now (s .entry)) p) ⌝ }
 {
-    if !whole(s.len(), p, 27) {
-        return Passed::Refused(refuse(numbers::SHORT, p));
+    if !whole(s.len(), p, width::TEXT) {
+        return Passed::Refused(refuse(refusals::SHORT, p));
     }
-    let q = p + 27;
+    let q = p + width::TEXT;
     let f = signs_of(&s[p..q]);
     if !f.permitted {
-        return Passed::Refused(refuse(numbers::NO_SIGN, p));
+        return Passed::Refused(refuse(refusals::NO_SIGN, p));
     }
     Passed::To(q)
 }
@@ -305,16 +311,16 @@ pub fn text_at(s: &[u8], p: usize) -> Passed
 pub fn name_at(s: &[u8], p: usize) -> Passed
     ensures { λ r. ⌜ r ≡ ofField passings p (p + 27) (fieldAt text27 rulesOfNames (now (s .entry)) p) ⌝ }
 {
-    if !whole(s.len(), p, 27) {
-        return Passed::Refused(refuse(numbers::SHORT, p));
+    if !whole(s.len(), p, width::TEXT) {
+        return Passed::Refused(refuse(refusals::SHORT, p));
     }
-    let q = p + 27;
+    let q = p + width::TEXT;
     let f = signs_of(&s[p..q]);
     if !f.permitted {
-        return Passed::Refused(refuse(numbers::NO_SIGN, p));
+        return Passed::Refused(refuse(refusals::NO_SIGN, p));
     }
     if f.blank {
-        return Passed::Refused(refuse(numbers::CONDITION, p));
+        return Passed::Refused(refuse(refusals::CONDITION, p));
     }
     Passed::To(q)
 }
@@ -323,8 +329,8 @@ pub fn name_at(s: &[u8], p: usize) -> Passed
 pub fn kind_at(s: &[u8], p: usize) -> KindRead
     ensures { λ r. ⌜ r ≡ ofField kinds p (p + 2) (lookAt (choice 2 fileKinds) (now (s .entry)) p) ⌝ }
 {
-    if !whole(s.len(), p, 2) {
-        return KindRead::Refused(refuse(numbers::SHORT, p));
+    if !whole(s.len(), p, width::A3) {
+        return KindRead::Refused(refuse(refusals::SHORT, p));
     }
     let next = p + 1;
     let first = s[p];
@@ -333,13 +339,13 @@ pub fn kind_at(s: &[u8], p: usize) -> KindRead
     let customer = second == b'K';
     let named = (credit | (first == b'L')) & (customer | (second == b'B'));
     if !named {
-        return KindRead::Refused(refuse(numbers::NOT_FIXED, p));
+        return KindRead::Refused(refuse(refusals::NOT_FIXED, p));
     }
     KindRead::Is(
         FileKind {
             credit: credit,
             customer: customer,
         },
-        p + 2,
+        p + width::A3,
     )
 }

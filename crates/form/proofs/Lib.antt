@@ -4,6 +4,7 @@ pub mod AnswerLaws
 pub mod KindLaws
 pub mod ReaderLaws
 pub mod NumberLaws
-pub mod RulesLaws
 pub mod PlaceLaws
 pub mod FilledLaws
+pub mod RulesLaws
+pub mod Promises

@@ -31,7 +31,7 @@ obey-has (rule n true ∷ rs) u v e = let h = obey-has rs u v e in ((tt, h.0), h
 obey-has (rule n false ∷ rs) u v e = absurd (has-or-lacks (sym e))
 
 module _ (κ : Kind) (rs : Value κ → List Rule) where
-  settle-content : (c : Content κ rs) → settle κ rs (spell κ (c .0)) ≡ has (c .0)
+  pub settle-content : (c : Content κ rs) → settle κ rs (spell κ (c .0)) ≡ has (c .0)
   settle-content c = rw (judge-spell κ (c .0) (c .1)) (obey-holds (rs (c .0)) (c .0) (c .2))
 
   -- what is read is a content, and is spelled so

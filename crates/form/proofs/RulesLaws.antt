@@ -1,15 +1,18 @@
 -- A form and rules that speak of values alone: where the filled forms are the legal values, written out, the reader's laws speak of the rules.
-use Prim.Native.Nat.{ℕ, _+_}
+use Prim.Native.Nat.{ℕ, _+_, _≤_}
+use native.Mathlib.Omega.{arith}
 use mathlib.Core.Path.{_≡_, refl, sym, ap, _∙_, subst}
 use mathlib.Core.Logic.{_≢_}
 use mathlib.Core.Bool.{Bool, true, false, not}
-use mathlib.Core.List.{List, _++_, append-assoc}
-use lib.ListN.{take}
+use mathlib.Core.List.{List, _++_, append-assoc, append-nil}
+use lib.ListN.{length, take, drop, drop-of-length-le}
 use lib.Dec.{T}
 use Rattle.form.specs.Kind.{spell}
 use Rattle.form.specs.Form.{Form, ret, field, fork, _>>=_, Filled, value, bytes, Viable}
 use Rattle.form.specs.Reader.{short, Refusal, Answer, accepted, refused, run}
+use Rattle.form.specs.Place.{done, readAt}
 use Rattle.form.proofs.ReaderLaws.{complete, sound, ahead, through}
+use Rattle.form.proofs.FilledLaws.{read-written, written-read}
 
 -- ---- a filled form, written field by field
 
@@ -123,3 +126,22 @@ module _ {N A : Type 0} (m : Form N A) (Legal : A → Type 0) (write : A → Lis
   pub through-none : (f : List ℕ) (r : Refusal N) → r .reason ≢ short → run m f ≡ refused r
       → (rest : List ℕ) (a : A) → Legal a → write a ≡ take (r .place + r .width) f ++ rest → ⊥
   through-none f r w e rest a l h = let s = says .fill a l in through m f r w e (s.0, rest, s.2 ∙ h)
+
+  -- what is read at a place is a legal value, which stands there written out
+  pub read-legal : (f : List ℕ) (p q : ℕ) (a : A) → readAt m f p ≡ done a q → Legal a × (drop p f ≡ write a ++ drop q f)
+  read-legal f p q a e =
+      let r = read-written m f p q a e in
+      let d = says .told r.0 in
+      let h : d.0 ≡ a = sym d.2 ∙ r.1 in
+      (subst Legal h d.1, r.2 ∙ ap (λ (l : List ℕ). l ++ drop q f) (d.3 ∙ ap write h))
+
+  -- and one that stands there is read
+  pub legal-read : (f : List ℕ) (p q : ℕ) (a : A) → p ≤ length f → q ≤ length f → Legal a → drop p f ≡ write a ++ drop q f → readAt m f p ≡ done a q
+  legal-read f p q a h g l e =
+      let r = says .fill a l in
+      written-read m r.0 f p q h g (e ∙ ap (λ (b : List ℕ). b ++ drop q f) (sym r.2)) ∙ ap (λ (b : A). done b q) r.1
+
+  pub whole-read : (a : A) → Legal a → readAt m (write a) 0 ≡ done a (length (write a))
+  whole-read a l =
+      let end = drop-of-length-le (write a) {i = length (write a)} (omega arith) in
+      legal-read (write a) 0 (length (write a)) a (omega arith) (omega arith) l (rw (end, append-nil))

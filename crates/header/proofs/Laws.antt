@@ -13,10 +13,10 @@ use Rattle.form.specs.Place.{lookAt, Read, done, readAt}
 use Rattle.form.proofs.BoolLaws.{and-both, or-cases}
 use Rattle.form.proofs.KindLaws.{same-eq}
 use Rattle.form.proofs.FilledLaws.{look-fits, read-filled}
-use Rattle.rules.specs.Values as values
-use Rattle.rules.specs.Rules.{All, fileKinds, senderBankOk, LegalHeader}
-use Rattle.rules.specs.Fields.{Name, header}
-use Rattle.rules.proofs.HeaderSays.{header-says}
+use Rattle.document.specs.Values as values
+use Rattle.document.specs.Rules.{All, fileKinds, sendingBankOk, LegalHeader}
+use Rattle.diskette.specs.Fields.{Name, header}
+use Rattle.diskette.proofs.HeaderSays.{header-says}
 use Rattle.calendar.specs.declared.Day.{Day}
 use Rattle.fields.specs.declared.FileKind.{FileKind}
 use Rattle.fields.specs.declared.KindRead.{KindRead}
@@ -76,8 +76,8 @@ implies true false = refl
 implies false b = refl
 
 -- the code's test of A5 is the rule's
-pub sender-test : (k : FileKind) (v : ℕ) {t : Bool} → k .customer && not (eqb v 0) ≡ t → senderBankOk (lettersOf k) v ≡ not t
-sender-test k v e = rw (ap (λ (x : FileKind). x .customer) (kind-back k)) (implies (k .customer) (eqb v 0) ∙ ap not e)
+pub sending-test : (k : FileKind) (v : ℕ) {t : Bool} → k .customer && not (eqb v 0) ≡ t → sendingBankOk (lettersOf k) v ≡ not t
+sending-test k v e = rw (ap (λ (x : FileKind). x .customer) (kind-back k)) (implies (k .customer) (eqb v 0) ∙ ap not e)
 
 -- ---- the answers
 
@@ -91,7 +91,7 @@ pub headers-told : Told headers headerWhy
 headers-told = record { apart = λ v q x e. zero-one cc; same = λ x. refl }
 
 pub opening-is : {a : OpeningRead} (x : Read Name Opening) → a ≡ ofRead openings x → {k : FileKind} {b c : ℕ} {d : Day} {q : ℕ} → a ≡ opened.Is k b c d q
-    → (o : Opening) × (x ≡ done o q) × (k ≡ kindOf (o .fileKind)) × (b ≡ o .bankCode) × (c ≡ o .senderBank) × (d ≡ dayFrom (o .made))
+    → (o : Opening) × (x ≡ done o q) × (k ≡ kindOf (o .fileKind)) × (b ≡ o .bankCode) × (c ≡ o .sendingBank) × (d ≡ dayFrom (o .made))
 opening-is x told {k} {b} {c} {d} {q} given =
     let r = reads openings-told x told (opened.Is k b c d q) (λ r e. zero-one cc) given in
     let e = r .given in
@@ -116,9 +116,9 @@ header-is x told {h} {q} given =
 
 -- what is kept of the two stretches is what is kept of the header
 pub same-header : (o : Opening) (x : Order) {k : FileKind} {b c : ℕ} {d : Day} {a r : ℕ} {e : Execution}
-    → k ≡ kindOf (o .fileKind) → b ≡ o .bankCode → c ≡ o .senderBank → d ≡ dayFrom (o .made)
+    → k ≡ kindOf (o .fileKind) → b ≡ o .bankCode → c ≡ o .sendingBank → d ≡ dayFrom (o .made)
     → a ≡ x .account → r ≡ x .reference → e ≡ executionIn (x .execution)
-    → _≡_ {A = Header} (record { kind = k; bank = b; sender = c; made = d; account = a; reference = r; execution = e }) (headerOf (joined o x))
+    → _≡_ {A = Header} (record { kind = k; bank = b; «sending_bank» = c; made = d; account = a; reference = r; execution = e }) (headerOf (joined o x))
 same-header o x k b c d a r e = rw (k, b, c, d, a, r, e)
 
 -- ---- the form of A

@@ -5,12 +5,12 @@ use mathlib.Core.List.{List}
 use mathlib.Core.Option.{Option}
 use Rattle.form.specs.Kind.{digits, maybe, choice, blanks}
 use Rattle.form.specs.Form.{Form, ret, get, any, _>>=_, _>>_}
-use Rattle.rules.specs.Signs.{ascii}
-use Rattle.rules.specs.Calendar.{ofDDMMYY}
-use Rattle.rules.specs.Calendar as calendar
-use Rattle.rules.specs.Values as values
-use Rattle.rules.specs.Rules.{fileKinds}
-use Rattle.rules.specs.Fields.{Name, A1, A2, A3, A4, A5, A6, A7, A8, A9, A10, A11a, A11b, A11c, A12, must, text27, rulesA5, rulesA7, executionOf, rulesA11b, header}
+use Rattle.document.specs.Signs.{ascii}
+use Rattle.document.specs.Calendar.{ofDDMMYY}
+use Rattle.document.specs.Calendar as calendar
+use Rattle.document.specs.Values as values
+use Rattle.document.specs.Rules.{fileKinds}
+use Rattle.diskette.specs.Fields.{Name, A1, A2, A3, A4, A5, A6, A7, A8, A9, A10, A11a, A11b, A11c, A12, must, text27, rulesA5, rulesA7, executionOf, rulesA11b, header}
 use Rattle.fields.specs.declared.Refusal.{Refusal}
 use Rattle.fields.specs.Answers.{refusalOf, Telling, kindOf}
 use Rattle.dates.specs.Dates.{dayFrom, executionIn}
@@ -27,8 +27,8 @@ use Rattle.header.specs.declared.HeaderRead.the-variants as headed
 pub record Opening : Type 0 where
   pub fileKind : List ℕ
   pub bankCode : ℕ
-  pub senderBank : ℕ
-  pub sender : List ℕ
+  pub sendingBank : ℕ
+  pub fileSender : List ℕ
   pub made : calendar.Day
 
 abbrev pub opening : Form Name Opening
@@ -37,15 +37,15 @@ opening = do
   must A2 (ascii "A")
   kind ← any A3 (choice 2 fileKinds)
   bankCode ← any A4 (digits 8)
-  senderBank ← get A5 (digits 8) (rulesA5 kind)
-  sender ← any A6 text27
+  sendingBank ← get A5 (digits 8) (rulesA5 kind)
+  fileSender ← any A6 text27
   made ← get A7 (digits 6) rulesA7
-  ret (record { fileKind = kind; bankCode = bankCode; senderBank = senderBank; sender = sender; made = ofDDMMYY made })
+  ret (record { fileKind = kind; bankCode = bankCode; sendingBank = sendingBank; fileSender = fileSender; made = ofDDMMYY made })
 
 abbrev pub openings : Telling Opening OpeningRead
 openings =
     record {
-      gives = λ o q. opened.Is (kindOf (o .fileKind)) (o .bankCode) (o .senderBank) (dayFrom (o .made)) q;
+      gives = λ o q. opened.Is (kindOf (o .fileKind)) (o .bankCode) (o .sendingBank) (dayFrom (o .made)) q;
       refuses = opened.Refused;
     }
 
@@ -86,8 +86,8 @@ joined o x =
     record {
       fileKind = o .fileKind;
       bankCode = o .bankCode;
-      senderBank = o .senderBank;
-      sender = o .sender;
+      sendingBank = o .sendingBank;
+      fileSender = o .fileSender;
       made = o .made;
       account = x .account;
       reference = x .reference;
@@ -108,7 +108,7 @@ headerOf h =
     record {
       kind = kindOf (h .fileKind);
       bank = h .bankCode;
-      sender = h .senderBank;
+      «sending_bank» = h .sendingBank;
       made = dayFrom (h .made);
       account = h .account;
       reference = h .reference;

@@ -3,7 +3,7 @@ ghost use mathlib.Core.Path.{_≡_};
 ghost use Prim.Native.Nat.{_+_};
 ghost use Rattle.form.specs.Kind.{digits};
 ghost use Rattle.form.specs.Place.{fieldAt, readAt};
-ghost use Rattle.rules.specs.Fields.{rulesA5, header};
+ghost use Rattle.diskette.specs.Fields.{rulesA5, header};
 ghost use Rattle.calendar.specs.Days.{dayOf};
 ghost use Rattle.fields.specs.Answers.{ofField, ofRead, numbers, lettersOf};
 ghost use Rattle.header.specs.Heading.{opening, openings, openingWhy, order, orders, orderWhy, headers, headerWhy};
@@ -17,13 +17,14 @@ use fields::Number;
 use fields::Passed;
 use fields::Refusal;
 use fields::fixed;
-use fields::numbers;
+use fields::refusals;
+use layout::width;
 
 // What A tells, as far as the code keeps it: its texts stay in the file.
 pub struct Header {
     pub kind: FileKind,
     pub bank: u64,
-    pub sender: u64,
+    pub sending_bank: u64,
     pub made: Day,
     pub account: u64,
     pub reference: u64,
@@ -81,15 +82,15 @@ impl OrderRead {
 }
 
 // The sending bank, A5, at p: all zero in the file of a customer.
-fn sender_bank_at(s: &[u8], p: usize, kind: FileKind) -> Number
+fn sending_bank_at(s: &[u8], p: usize, kind: FileKind) -> Number
     ensures { λ r. ⌜ r ≡ ofField numbers p (p + 8) (fieldAt (digits 8) (rulesA5 (lettersOf kind)) (now (s .entry)) p) ⌝ }
 {
-    let a = fields::number_at(s, p, 8);
+    let a = fields::number_at(s, p, width::A5);
     let Number::Is(v, q) = a else {
         return Number::Refused(a.why());
     };
     if kind.customer & (v != 0) {
-        return Number::Refused(fields::refuse(numbers::CONDITION, p));
+        return Number::Refused(fields::refuse(refusals::CONDITION, p));
     }
     Number::Is(v, q)
 }
@@ -110,12 +111,12 @@ fn opening_at(s: &[u8], p: usize) -> OpeningRead
     let KindRead::Is(kind, p4) = a3 else {
         return OpeningRead::Refused(a3.why());
     };
-    let a4 = fields::number_at(s, p4, 8);
+    let a4 = fields::number_at(s, p4, width::A4);
     let Number::Is(bank, p5) = a4 else {
         return OpeningRead::Refused(a4.why());
     };
-    let a5 = sender_bank_at(s, p5, kind);
-    let Number::Is(sender, p6) = a5 else {
+    let a5 = sending_bank_at(s, p5, kind);
+    let Number::Is(sending_bank, p6) = a5 else {
         return OpeningRead::Refused(a5.why());
     };
     let a6 = fields::text_at(s, p6);
@@ -126,26 +127,26 @@ fn opening_at(s: &[u8], p: usize) -> OpeningRead
     let DayRead::Is(made, p8) = a7 else {
         return OpeningRead::Refused(a7.why());
     };
-    OpeningRead::Is(kind, bank, sender, made, p8)
+    OpeningRead::Is(kind, bank, sending_bank, made, p8)
 }
 
 // A8 to A12 at p, of a file made on the day `made`.
 fn order_at(s: &[u8], p: usize, made: Day) -> OrderRead
     ensures { λ r. ⌜ r ≡ ofRead orders (readAt (order (dayOf made)) (now (s .entry)) p) ⌝ }
 {
-    let a8 = fields::blanks_at(s, p, 4);
+    let a8 = fields::blanks_at(s, p, width::A8);
     let Passed::To(p9) = a8 else {
         return OrderRead::Refused(a8.why());
     };
-    let a9 = fields::number_at(s, p9, 10);
+    let a9 = fields::number_at(s, p9, width::A9);
     let Number::Is(account, p10) = a9 else {
         return OrderRead::Refused(a9.why());
     };
-    let a10 = fields::number_at(s, p10, 10);
+    let a10 = fields::number_at(s, p10, width::A10);
     let Number::Is(reference, p11) = a10 else {
         return OrderRead::Refused(a10.why());
     };
-    let a11a = fields::blanks_at(s, p11, 15);
+    let a11a = fields::blanks_at(s, p11, width::A11A);
     let Passed::To(p11b) = a11a else {
         return OrderRead::Refused(a11a.why());
     };
@@ -153,7 +154,7 @@ fn order_at(s: &[u8], p: usize, made: Day) -> OrderRead
     let ExecutionRead::Is(execution, p11c) = a11b else {
         return OrderRead::Refused(a11b.why());
     };
-    let a11c = fields::blanks_at(s, p11c, 24);
+    let a11c = fields::blanks_at(s, p11c, width::A11C);
     let Passed::To(p12) = a11c else {
         return OrderRead::Refused(a11c.why());
     };
@@ -169,7 +170,7 @@ pub fn header_at(s: &[u8], p: usize) -> HeaderRead
     ensures { λ r. ⌜ r ≡ ofRead headers (readAt header (now (s .entry)) p) ⌝ }
 {
     let a = opening_at(s, p);
-    let OpeningRead::Is(kind, bank, sender, made, p8) = a else {
+    let OpeningRead::Is(kind, bank, sending_bank, made, p8) = a else {
         return HeaderRead::Refused(a.why());
     };
     let b = order_at(s, p8, made);
@@ -180,7 +181,7 @@ pub fn header_at(s: &[u8], p: usize) -> HeaderRead
         Header {
             kind: kind,
             bank: bank,
-            sender: sender,
+            sending_bank: sending_bank,
             made: made,
             account: account,
             reference: reference,

@@ -1,5 +1,4 @@
 pub mod TrimLaws
-pub mod DigitLaws
 pub mod LineLaws
 pub mod PrintLaws
 pub mod NumberLaws
@@ -8,4 +7,4 @@ pub mod RecordLaws
 pub mod ListingLaws
 pub mod LoopLaws
 pub mod ListLaws
-pub mod Answers
+pub mod Promises

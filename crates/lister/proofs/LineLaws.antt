@@ -14,9 +14,9 @@ use Rattle.form.proofs.BoolLaws.{and-both}
 use Rattle.listing.specs.Lines.{tab, lineEnd, behindTabs, trim}
 use Rattle.listing.specs.Records.{Cell, cut}
 use Rattle.listing.proofs.LineLaws.{length-trim}
-use Rattle.pen.specs.declared.Cell.{Cell as CodeCell}
-use Rattle.pen.specs.Walking.{letterOf, cellsOf, cellOf, cellAt}
-use Rattle.lister.specs.Printing.{lineAt, Lies, printed}
+use Rattle.layout.specs.declared.Cell.{Cell as CodeCell}
+use Rattle.layout.specs.Cells.{letterOf, cellsOf, cellOf, cellAt}
+use Rattle.lister.specs.Printing.{lineAt, Lies, printedCell}
 
 -- the fields in these cells of the record at p, each behind a tab
 abbrev pub tabbed : List ℕ → ℕ → List Cell → List ℕ
@@ -27,7 +27,7 @@ tabbed f p cs = behindTabs (cut f p cs)
 -- a cell of the code: it lies in the file, and what stands in it follows the fields before it
 pub record Lying (f : List ℕ) (p : ℕ) (cs : List Cell) (i : ℕ) (c : CodeCell) : Type 0 where
   pub inside : p + (c .place + c .width) ≤ length f
-  pub more : cut f p (take (suc i) cs) ≡ cut f p (take i cs) ++ (printed c f p ∷ [])
+  pub more : cut f p (take (suc i) cs) ≡ cut f p (take i cs) ++ (printedCell c f p ∷ [])
 
 cell-lies : (f : List ℕ) (p : ℕ) (cs : List Cell) (n i : ℕ) → i < n → n ≤ length cs
     → T (every (λ (c : Cell). leb (p + (c .place + width (c .kind))) (length f)) (take n cs)) → Lying f p cs i (cellOf (getElem? cs i))
@@ -57,8 +57,8 @@ pub width-is : (a w : ℕ) (f : List ℕ) {n : ℕ} → n ≡ length (trim (take
 width-is a w f e = e ∙ ap (λ bs. length (trim bs)) (part-is a w f)
 
 tabbed-more : {f : List ℕ} {p : ℕ} {cs : List Cell} {i : ℕ} {c : CodeCell} → Lying f p cs i c
-    → tabbed f p (take (i + 1) cs) ≡ tabbed f p (take i cs) ++ (tab ∷ printed c f p)
-tabbed-more {f} {p} {cs} {i} {c} l = rw (add-one i, l .more) (tabs-more (cut f p (take i cs)) (printed c f p))
+    → tabbed f p (take (i + 1) cs) ≡ tabbed f p (take i cs) ++ (tab ∷ printedCell c f p)
+tabbed-more {f} {p} {cs} {i} {c} l = rw (add-one i, l .more) (tabs-more (cut f p (take i cs)) (printedCell c f p))
 
 -- ---- lengths
 
@@ -112,12 +112,12 @@ module _ {head : Bool} {n : ℕ} {f : List ℕ} {p m i : ℕ} (s : Counting head
   pub count-short : m ≤ 633
   count-short = omega (arith, s .counts, tabbed-short head i f p)
 
-  pub count-more : {c : CodeCell} → Lying f p (cellsOf head) i c → i < n → {w : ℕ} → w ≡ length (printed c f p)
+  pub count-more : {c : CodeCell} → Lying f p (cellsOf head) i c → i < n → {w : ℕ} → w ≡ length (printedCell c f p)
       → Counting head n f p (m + (1 + w)) (i + 1)
   count-more {c} l h {w} e =
       let t = tabbed f p (take i (cellsOf head)) in
-      let more : length (tabbed f p (take (i + 1) (cellsOf head))) ≡ length t + suc (length (printed c f p))
-      = ap length (tabbed-more l) ∙ length-append t (tab ∷ printed c f p) in
+      let more : length (tabbed f p (take (i + 1) (cellsOf head))) ≡ length t + suc (length (printedCell c f p))
+      = ap length (tabbed-more l) ∙ length-append t (tab ∷ printedCell c f p) in
       record { inside = omega arith; counts = omega (arith, s .counts) }
 
   pub count-ends : n ≤ i → m ≡ length (lineAt head n f p)

@@ -9,19 +9,22 @@ use lib.ListN.{length}
 use lib.Dec.{leb}
 use borrow.Author.Tests.{leb-true, leb-false, not-true, not-false}
 use Rattle.form.specs.Reader.{Answer, accepted, refused}
-use Rattle.rules.specs.Values.{Document}
-use Rattle.rules.specs.Writing.{Acceptable}
-use Rattle.rules.specs.Fields.{Name}
-use Rattle.rules.specs.Answer.{answer, outcome, filled}
-use Rattle.rules.proofs.Demand3.{accepted-exactly}
+use Rattle.verdict.specs.declared.Verdict.{Verdict}
+use Rattle.verdict.specs.Verdicts.{accepting, refusing}
+use Rattle.verdict.specs.Lent.{filled}
+use Rattle.document.specs.Values.{Document}
+use Rattle.diskette.specs.Writing.{Acceptable}
+use Rattle.diskette.specs.Fields.{Name}
+use Rattle.diskette.specs.Answer.{answer, outcome}
+use Rattle.diskette.proofs.Promises.{accepted-exactly}
 use Rattle.checker.specs.declared.Checked.{Checked}
 use Rattle.checker.specs.Checking.{checkedOf}
-use Rattle.checker.proofs.Answers.{accepts-exactly}
-use Rattle.listing.specs.Endings.{Ending, writes, refuses, listed, bytesOf}
-use Rattle.pen.specs.declared.Written.{Written}
-use Rattle.pen.specs.Writing.{writtenOf}
-use Rattle.pen.proofs.EndingLaws.{Says as EndingSays, ends-refused, ends-short, ends-written}
-use Rattle.lister.specs.Printing.{Accepted}
+use Rattle.checker.proofs.Promises.{accepts-exactly}
+use Rattle.listing.specs.Endings.{Ending, writes, refuses, listed, written}
+use Rattle.output.specs.declared.Written.{Written}
+use Rattle.output.specs.Writing.{writtenOf}
+use Rattle.output.proofs.EndingLaws.{Says as EndingSays, ends-refused, ends-short, ends-written}
+use Rattle.lister.specs.Printing.{AcceptedFile}
 use Rattle.lister.proofs.ListingLaws.{listingOf, listed-as}
 
 -- what `list` ensures of its result and of the output, for the file and what the output held before
@@ -29,12 +32,12 @@ abbrev pub Says : List ℕ → List ℕ → Written → List ℕ → Type 0
 Says file old r new = EndingSays (listed (answer file)) old r new
 
 -- a file that the check accepts
-pub is-accepted : (file : List ℕ) {c : Checked} → c ≡ checkedOf (outcome (answer file)) → c .number ≡ 0 → Accepted (c .count) file
-is-accepted file told zero = (sym (ap (λ (x : Checked). x .number) told) ∙ zero, ap (λ (x : Checked). x .count) told)
+pub is-accepted : (file : List ℕ) {c : Checked} → c ≡ checkedOf (outcome (answer file)) → c .verdict .number ≡ 0 → AcceptedFile (c .count) file
+is-accepted file told zero = (sym (ap (λ (x : Checked). x .verdict .number) told) ∙ zero, ap (λ (x : Checked). x .count) told)
 
--- a refusal with the number and the place of the check
+-- a refusal with the verdict of the check
 abbrev RefusedAs : Answer Name Document → Type 0
-RefusedAs a = listed a ≡ refuses (outcome a .number) (outcome a .place)
+RefusedAs a = listed a ≡ refuses (outcome a .verdict)
 
 -- every file is acceptable or refused so
 pub acceptable-or-refused : (file : List ℕ) → Acceptable file ⊎ RefusedAs (answer file)
@@ -53,24 +56,24 @@ module _ (file old : List ℕ) {c : Checked} (told : c ≡ checkedOf (outcome (a
   end = listed (answer file)
 
   -- the file is refused
-  pub list-refused : c .number ≢ 0 → {r : Written} → r ≡ writtenOf (refuses (c .number) (c .place)) → Says file old r old
+  pub list-refused : c .verdict .number ≢ 0 → {r : Written} → r ≡ writtenOf (refuses (c .verdict)) → Says file old r old
   list-refused n g =
       let e = else-refused file (λ x. n (accepts-exactly file c told .1 x)) in
-      ends-refused end old (e ∙ ap (λ (x : Checked). refuses (x .number) (x .place)) (sym told)) g
+      ends-refused end old (e ∙ ap (λ (x : Checked). refuses (x .verdict)) (sym told)) g
 
-  module _ (zero : c .number ≡ 0) where
+  module _ (zero : c .verdict .number ≡ 0) where
     listing-written : end ≡ writes (listingOf file)
-    listing-written = let i = listed-as file (accepts-exactly file c told .0 zero) in i ∙ ap (λ e. writes (bytesOf e)) (sym i)
+    listing-written = let i = listed-as file (accepts-exactly file c told .0 zero) in i ∙ ap (λ e. writes (written e)) (sym i)
 
     -- all of it is written
     pub list-full : length (listingOf file) ≤ length old → {m : ℕ} → m ≡ length (listingOf file) → {new : List ℕ} → new ≡ filled (listingOf file) old
-        → Says file old (record { number = 0; place = 0; length = m }) new
-    list-full h long n = ends-written end old listing-written h (ap (λ (m : ℕ). record { number = 0; place = 0; length = m }) long) n
+        → Says file old (record { verdict = accepting; length = m }) new
+    list-full h long n = ends-written end old listing-written h (ap (λ (m : ℕ). record { verdict = accepting; length = m }) long) n
 
     -- the test of the room says whether it is
     module _ {b : Bool} (e : b ≡ leb (length (listingOf file)) (length old)) where
-      pub list-no-room : not b ≡ true → {r : Written} → r ≡ writtenOf (refuses 16 0) → Says file old r old
-      list-no-room n g = ends-short end old listing-written (leb-false (length (listingOf file)) (length old) (sym e ∙ not-true b n)) g
+      pub list-no-room : not b ≡ true → {v : Verdict} → v ≡ refusing 16 0 → {r : Written} → r ≡ writtenOf (refuses v) → Says file old r old
+      list-no-room n w g = ends-short end old listing-written (leb-false (length (listingOf file)) (length old) (sym e ∙ not-true b n)) w g
 
       pub list-room : not b ≡ false → length (listingOf file) ≤ length old
       list-room n = leb-true (length (listingOf file)) (length old) (sym e ∙ not-false b n)

@@ -1,82 +1,30 @@
--- An accepted file, line by line: what is listed of it so far, and the payments that still stand there.
+-- An accepted file, line by line: what is listed of it before a payment, and the line of the next one.
 -- Assumes nothing.
-use Prim.Native.Nat.{ℕ, _+_, _*_, _≤_, _<_, min}
+use Prim.Native.Nat.{ℕ, zero, suc, _+_, _≤_, _<_}
+use native.Mathlib.Numerals.{add-one}
 use native.Mathlib.Omega.{arith}
-use mathlib.Core.Path.{_≡_, refl, sym, ap, subst, _∙_}
+use mathlib.Core.Path.{_≡_, refl, sym, ap, ap₂, _∙_}
 use mathlib.Core.Bool.{true, false}
 use mathlib.Core.List.{List, [], _∷_, _++_, append-assoc, append-nil}
 use lib.ListN.{length, take, drop, length-append}
-use lib.Seq.{drop-drop, drop-at}
-use lib.Dec.{T}
-use Rattle.form.specs.Kind.{every, digit}
-use Rattle.form.specs.Reader.{number}
-use Rattle.rules.specs.Values.{Payment, Document, Totals, totals}
-use Rattle.rules.specs.Rules.{All, LegalPayment}
-use Rattle.rules.specs.Writing.{section, writeHeader, writePayment, writePayments, writeEnd, Acceptable}
-use Rattle.rules.specs.Answer.{answer}
-use Rattle.rules.proofs.PaymentSays.{few-parts}
-use Rattle.rules.proofs.LayoutLaws.{header-length}
-use Rattle.rules.proofs.Demand1.{zero-exactly}
-use Rattle.rules.proofs.Demand2.{totals-are}
-use Rattle.rules.proofs.Demand3.{accepted-reading}
+use lib.Seq.{drop-drop}
+use Rattle.document.specs.Values.{Payment, Document, totals}
+use Rattle.document.specs.Rules.{All, LegalPayment}
+use Rattle.document.specs.Marks.{mostParts}
+use Rattle.diskette.specs.Writing.{writeHeader, writePayment, writePayments, writeEnd, write, Acceptable}
+use Rattle.diskette.specs.Answer.{answer, paymentsOf}
+use Rattle.diskette.proofs.Promises.{accepted-reading, zero-exactly, payments-counted}
 use Rattle.listing.specs.Listing.{headerLine, paymentLine, paymentLines, listing}
-use Rattle.listing.specs.Endings.{writes, listed, bytesOf}
-use Rattle.lister.specs.Printing.{lineAt, Lies, Formed, Accepted}
-use Rattle.lister.proofs.RecordLaws.{header-lies, header-line, header-short, payment-inside, parts-known, parts-told}
-use Rattle.lister.proofs.RecordLaws.{payment-lies, payment-fields-formed, payment-line, payment-bytes, payment-short}
+use Rattle.listing.specs.Records.{fieldsOfHeaderLine, fieldsWith}
+use Rattle.listing.specs.Endings.{writes, listed, written}
+use Rattle.layout.specs.Steps.{partsAt}
+use Rattle.layout.proofs.StandLaws.{Stand}
+use Rattle.layout.proofs.StepLaws.{Keeping, Passing, Onward, Next, next, none-left}
+use Rattle.lister.specs.Printing.{lineAt, Lies, Formed, AcceptedFile}
+use Rattle.lister.proofs.RecordLaws.{header-lies, header-line, header-short}
+use Rattle.lister.proofs.RecordLaws.{payment-few, payment-lies, payment-fields-formed, payment-line, payment-short}
 
--- ---- payments
-
--- they stand at p one after another, each of them legal
-pub record Coming (f : List ℕ) (p : ℕ) (ps : List Payment) : Type 0 where
-  pub kind : List ℕ
-  pub legal : All (LegalPayment kind) ps
-  pub rest : List ℕ
-  pub stand : drop p f ≡ writePayments ps ++ rest
-
--- what C18 tells of the payment at p
-abbrev pub partsThere : List ℕ → ℕ → ℕ
-partsThere f p = number (take 2 (drop (p + 185) f))
-
--- the first of them: the number of its parts, where its fields lie, its line and its bytes, and the payments behind it
-pub record Next (f : List ℕ) (p : ℕ) (left : List Payment) : Type 0 where
-  pub payment : Payment
-  pub others : List Payment
-  pub is : left ≡ payment ∷ others
-  pub known : (p + 187 ≤ length f) × T (every digit (take 2 (drop (p + 185) f)))
-  pub few : partsThere f p ≤ 15
-  pub lies : Lies false (12 + 2 * partsThere f p) f p
-  pub formed : Formed false (12 + 2 * partsThere f p) f p
-  pub line : lineAt false (12 + 2 * partsThere f p) f p ≡ paymentLine payment
-  pub bytes : 128 * section (min (partsThere f p) 15) ≡ length (writePayment payment)
-  pub inside : p + length (writePayment payment) ≤ length f
-  pub behind : Coming f (p + length (writePayment payment)) others
-
-next-of : {f : List ℕ} {p : ℕ} (left : List Payment) → Coming f p left → 0 < length left → Next f p left
-next-of [] c h = absurd (omega arith)
-next-of {f} {p} (q ∷ qs) c h =
-    let l = c .legal .0 in
-    let rest = writePayments qs ++ c .rest in
-    let s : drop p f ≡ writePayment q ++ rest = c .stand ∙ append-assoc (writePayment q) (writePayments qs) (c .rest) in
-    let k = parts-told q l f p rest s in
-    record {
-      payment = q;
-      others = qs;
-      is = refl;
-      known = parts-known q l f p rest s;
-      few = rw k (few-parts (c .kind) q l);
-      lies = rw k (payment-lies q l f p rest s);
-      formed = rw k (payment-fields-formed q l f p rest s);
-      line = rw k (payment-line q l f p rest s);
-      bytes = rw k (payment-bytes q l f p rest s);
-      inside = payment-inside q l f p rest s;
-      behind = record {
-        kind = c .kind;
-        legal = c .legal .1;
-        rest = c .rest;
-        stand = sym (drop-drop (length (writePayment q)) p f) ∙ ap (drop (length (writePayment q))) s ∙ drop-at (writePayment q) rest _ refl;
-      };
-    }
+-- ---- the lines of payments
 
 payments-short : (kind : List ℕ) (ps : List Payment) → All (LegalPayment kind) ps → length (paymentLines ps) ≤ length (writePayments ps)
 payments-short kind [] a = omega arith
@@ -84,6 +32,21 @@ payments-short kind (q ∷ qs) a =
     let l = length-append (paymentLine q) (paymentLines qs) in
     let w = length-append (writePayment q) (writePayments qs) in
     omega (arith, payment-short q (a .0), payments-short kind qs (a .1))
+
+-- those of the first payments, and then those of the others
+lines-parted : (row : ℕ) (ps : List Payment) → paymentLines ps ≡ paymentLines (take row ps) ++ paymentLines (drop row ps)
+lines-parted zero ps = refl
+lines-parted (suc row) [] = refl
+lines-parted (suc row) (q ∷ qs) =
+    ap (λ bs. paymentLine q ++ bs) (lines-parted row qs) ∙ sym (append-assoc (paymentLine q) (paymentLines (take row qs)) (paymentLines (drop row qs)))
+
+-- one payment more
+lines-more : (row : ℕ) (ps : List Payment) (x : Payment) (xs : List Payment) → x ∷ xs ≡ drop row ps
+    → paymentLines (take (suc row) ps) ≡ paymentLines (take row ps) ++ paymentLine x
+lines-more zero ps x xs e = ap (λ l. paymentLines (take 1 l)) (sym e) ∙ append-nil (paymentLine x)
+lines-more (suc row) [] x xs e = absurd (let z = ap length e in omega arith)
+lines-more (suc row) (q ∷ qs) x xs e =
+    ap (λ bs. paymentLine q ++ bs) (lines-more row qs x xs e) ∙ sym (append-assoc (paymentLine q) (paymentLines (take row qs)) (paymentLine x))
 
 -- ---- the file
 
@@ -94,103 +57,111 @@ listed-as f x = rw (accepted-reading f x)
 
 -- the bytes of its listing
 abbrev pub listingOf : List ℕ → List ℕ
-listingOf f = bytesOf (listed (answer f))
+listingOf f = written (listed (answer f))
 
--- n payments in all: the lines of `row` of them are those in `done`, the next one stands at p
-pub record Standing (f : List ℕ) (n : ℕ) (done : List ℕ) (p row : ℕ) : Type 0 where
-  pub left : List Payment
-  pub count : row + length left ≡ n
-  pub coming : Coming f p left
-  pub whole : listingOf f ≡ lineAt true 8 f 0 ++ (done ++ paymentLines left)
-  pub short : length (listingOf f) ≤ length f
+-- the line of A, and the lines of the payments before this row
+abbrev pub lineOfA : List ℕ → List ℕ
+lineOfA f = lineAt true fieldsOfHeaderLine f 0
 
-module _ (n : ℕ) (f : List ℕ) (a : Accepted n f) where
+abbrev pub linesTo : List ℕ → ℕ → List ℕ
+linesTo f row = paymentLines (take row (paymentsOf (answer f)))
+
+module _ (n : ℕ) (f : List ℕ) (a : AcceptedFile n f) where
   abbrev found : Acceptable f
   found = zero-exactly f .0 (a .0)
 
   abbrev d : Document
   d = found .0
 
-  abbrev behindA : List ℕ
-  behindA = writePayments (d .payments) ++ (writeEnd (totals (d .payments)) ++ [])
+  payments-are : paymentsOf (answer f) ≡ d .payments
+  unfolding paymentsOf
+  payments-are = rw (accepted-reading f found)
 
-  starts-with-A : f ≡ writeHeader (d .header) ++ behindA
-  starts-with-A = sym (found .2)
+  all-counted : n ≡ length (paymentsOf (answer f))
+  all-counted = a .1 ∙ payments-counted (answer f)
 
-  pub A-lies : Lies true 8 f 0
-  A-lies = header-lies (d .header) (found .1 .header) f behindA starts-with-A
+  starts-with-A : Stand f 0 (writeHeader (d .header) ∷ writePayments (d .payments) ∷ writeEnd (totals (d .payments)) ∷ [])
+  starts-with-A = record { rest = []; bytes = sym (found .2) ∙ sym (append-nil (write d)) }
+
+  pub A-lies : Lies true fieldsOfHeaderLine f 0
+  A-lies = header-lies (d .header) (found .1 .header) starts-with-A
 
   listing-is : listingOf f ≡ listing d
-  listing-is = ap bytesOf (listed-as f found)
+  listing-is = ap written (listed-as f found)
 
-  -- no longer than the file
+  -- it is no longer than the file
   pub listing-short : length (listingOf f) ≤ length f
   listing-short =
+      let ends = writeEnd (totals (d .payments)) ++ [] in
       let e = ap length listing-is ∙ length-append (headerLine (d .header)) (paymentLines (d .payments)) in
-      let w = ap length starts-with-A ∙ length-append (writeHeader (d .header)) behindA in
-      let b = length-append (writePayments (d .payments)) (writeEnd (totals (d .payments)) ++ []) in
+      let w = ap length (sym (found .2)) ∙ length-append (writeHeader (d .header)) (writePayments (d .payments) ++ ends) in
+      let b = length-append (writePayments (d .payments)) ends in
       let a = header-short (d .header) (found .1 .header) in
       let c = payments-short (d .header .fileKind) (d .payments) (found .1 .payments) in
       omega arith
 
-  -- behind the line of A
-  pub stand-start : Standing f n [] 128 0
-  stand-start =
-      let c : n ≡ length (d .payments) = a .1 ∙ ap (λ (t : Totals). t .count) (totals-are f found) in
-      record {
-        left = d .payments;
-        count = omega arith;
-        coming = record {
-          kind = d .header .fileKind;
-          legal = found .1 .payments;
-          rest = writeEnd (totals (d .payments)) ++ [];
-          stand = ap (drop 128) starts-with-A ∙ drop-at (writeHeader (d .header)) behindA 128 (header-length (d .header) (found .1 .header));
-        };
-        whole = listing-is ∙ ap (λ bs. bs ++ paymentLines (d .payments)) (sym (header-line (d .header) (found .1 .header) f behindA starts-with-A));
-        short = listing-short;
-      }
+  -- the line of A, the lines before this row, and those from it on
+  listing-parted : (row : ℕ) → listingOf f ≡ lineOfA f ++ (linesTo f row ++ paymentLines (drop row (paymentsOf (answer f))))
+  listing-parted row =
+      listing-is
+      ∙ ap₂ (λ bs ps. bs ++ paymentLines ps) (sym (header-line (d .header) (found .1 .header) starts-with-A)) (sym payments-are)
+      ∙ ap (λ bs. lineOfA f ++ bs) (lines-parted row (paymentsOf (answer f)))
 
-module _ {f : List ℕ} {n : ℕ} {done : List ℕ} {p row : ℕ} (s : Standing f n done p row) where
-  -- what is listed of it so far is no longer than all of it
-  pub done-within : length (lineAt true 8 f 0) + length done ≤ length (listingOf f)
-  done-within =
-      let l = length-append (lineAt true 8 f 0) (done ++ paymentLines (s .left)) in
-      omega (arith, ap length (s .whole), length-append done (paymentLines (s .left)))
+  -- what is listed before this row is no longer than all of it
+  pub done-within : (row : ℕ) → length (lineOfA f) + length (linesTo f row) ≤ length (listingOf f)
+  done-within row =
+      let rest = paymentLines (drop row (paymentsOf (answer f))) in
+      let l = length-append (lineOfA f) (linesTo f row ++ rest) in
+      omega (arith, ap length (listing-parted row), length-append (linesTo f row) rest)
+
+-- ---- from one line to the next
+
+-- the payments still to come are those from this row on
+abbrev pub FromRow : List ℕ → Keeping
+FromRow f row p left = left ≡ drop row (paymentsOf (answer f))
+
+-- the file is accepted, with n payments; `row` of them are passed, the next stands at p
+pub record Standing (f : List ℕ) (n p row : ℕ) : Type 0 where
+  pub accepted : AcceptedFile n f
+  pub passing : Passing f (FromRow f) row p
+
+module _ {f : List ℕ} {n p row : ℕ} (s : Standing f n p row) where
+  -- a payment passed is a row passed
+  pub row-on : Onward f row p (FromRow f)
+  row-on x xs b k = ap (drop 1) k ∙ drop-drop 1 row (paymentsOf (answer f))
+
+  -- behind the last payment all is listed
+  pub stand-ends : n ≤ row → listingOf f ≡ lineOfA f ++ linesTo f row
+  stand-ends h =
+      let c = all-counted n f (s .accepted) in
+      let none : drop row (paymentsOf (answer f)) ≡ [] = sym (s .passing .kept) ∙ none-left (s .passing) (omega arith) in
+      listing-parted n f (s .accepted) row
+      ∙ ap (λ ps. lineOfA f ++ (linesTo f row ++ paymentLines ps)) none
+      ∙ ap (λ bs. lineOfA f ++ bs) (append-nil (linesTo f row))
 
   module _ (h : row < n) where
-    pub next : Next f p (s .left)
-    next = next-of (s .left) (s .coming) (let e = s .count in omega arith)
+    pub still-coming : row < length (paymentsOf (answer f))
+    still-coming = let c = all-counted n f (s .accepted) in omega arith
 
-    module _ {k step : ℕ} (e : k ≡ partsThere f p) (g : step ≡ 128 * section (min k 15)) where
-      step-is : step ≡ length (writePayment (next .payment))
-      step-is = g ∙ ap (λ k. 128 * section (min k 15)) e ∙ next .bytes
+    -- the payment of the next line
+    here : Next f (FromRow f) row p (s .passing .left)
+    here = next (s .passing) still-coming
 
-      pub step-inside : p + step ≤ length f
-      step-inside = omega (arith, step-is, next .inside)
+    -- the code has read the number of its parts
+    module _ {k : ℕ} (told : k ≡ partsAt f p) where
+      pub next-few : k ≤ mostParts
+      next-few = payment-few (here .begun) told
 
-      -- one line more, and on by the bytes of its payment
-      pub stand-more : Standing f n (done ++ lineAt false (12 + 2 * k) f p) (p + step) (row + 1)
-      stand-more =
-          let x = next in
-          let t : lineAt false (12 + 2 * k) f p ≡ paymentLine (x .payment) = ap (λ k. lineAt false (12 + 2 * k) f p) e ∙ x .line in
-          let w : done ++ paymentLines (s .left) ≡ (done ++ lineAt false (12 + 2 * k) f p) ++ paymentLines (x .others)
-          = ap (λ ps. done ++ paymentLines ps) (x .is)
-          ∙ sym (append-assoc done (paymentLine (x .payment)) (paymentLines (x .others)))
-          ∙ ap (λ bs. (done ++ bs) ++ paymentLines (x .others)) (sym t) in
-          let m = ap length (x .is) in
-          let c = s .count in
-          record {
-            left = x .others;
-            count = omega arith;
-            coming = subst (λ n. Coming f (p + n) (x .others)) (sym step-is) (x .behind);
-            whole = s .whole ∙ ap (λ bs. lineAt true 8 f 0 ++ bs) w;
-            short = s .short;
-          }
+      pub next-lies : Lies false (fieldsWith k) f p
+      next-lies = payment-lies (here .begun) told (here .inside)
 
-  -- behind the last payment
-  pub stand-ends : n ≤ row → listingOf f ≡ lineAt true 8 f 0 ++ done
-  stand-ends h = s .whole ∙ ap (λ bs. lineAt true 8 f 0 ++ bs) (ap (λ ps. done ++ paymentLines ps) (none (s .left) (s .count)) ∙ append-nil done)
-    where
-      none : (l : List Payment) → row + length l ≡ n → l ≡ []
-      none [] e = refl
-      none (x ∷ xs) e = absurd (omega arith)
+      pub next-formed : Formed false (fieldsWith k) f p
+      next-formed = payment-fields-formed (here .begun) told
+
+      -- its line is the next
+      pub line-more : linesTo f (row + 1) ≡ linesTo f row ++ lineAt false (fieldsWith k) f p
+      line-more =
+          let x = here in
+          ap (λ i. linesTo f i) (add-one row)
+          ∙ lines-more row (paymentsOf (answer f)) (x .payment) (x .others) (x .kept)
+          ∙ ap (λ bs. linesTo f row ++ bs) (sym (payment-line (x .begun) told))

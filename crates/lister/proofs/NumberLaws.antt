@@ -1,6 +1,6 @@
 -- Numbers of a payment: where the fields have the width that a line gives them, a number stands in full.
 -- Assumes nothing.
-use Prim.Native.Nat.{ℕ, zero, suc, _+_, _*_, _≤_, _<_}
+use Prim.Native.Nat.{ℕ, zero, suc, _+_, _≤_, _<_}
 use native.Mathlib.Omega.{arith}
 use mathlib.Core.Path.{_≡_, refl, subst}
 use mathlib.Core.Bool.{false, not}
@@ -10,12 +10,13 @@ use lib.Dec.{T, eqb→eq}
 use Rattle.form.specs.Kind.{Kind, fixed, digits, maybe, text, choice, width, numeral}
 use Rattle.form.proofs.BelowLaws.{below, agree}
 use Rattle.form.proofs.BoolLaws.{and-both}
-use Rattle.rules.specs.Writing.{toSectionEnd, toNextPart}
+use Rattle.document.specs.Marks.{mostParts}
+use Rattle.diskette.specs.Writing.{toSectionEnd, toNextPart}
 use Rattle.listing.specs.Lines.{trim, endsInBlank}
-use Rattle.listing.specs.Records.{Cell, cut, wide, fieldFormed, formed}
-use Rattle.pen.specs.declared.Cell.{Cell as CodeCell}
-use Rattle.pen.specs.Walking.{cellsOf, isText, isOptional, cellOf, cellAt}
-use Rattle.lister.specs.Printing.{Lies, Formed, printed, fieldAt}
+use Rattle.listing.specs.Records.{numbersOfPaymentLine, fieldsWith, Cell, cut, wide, fieldFormed, formed}
+use Rattle.layout.specs.declared.Cell.{Cell as CodeCell}
+use Rattle.layout.specs.Cells.{cellsOf, isText, isOptional, cellOf, cellAt}
+use Rattle.lister.specs.Printing.{Lies, Formed, printedCell, printedField}
 
 -- a field that is no text and may not be absent
 abbrev IsNumber : CodeCell → Type 0
@@ -29,7 +30,7 @@ wide-full (text sign w) n s o t = absurd (subst T s tt)
 wide-full (choice w words) n s o t = eqb→eq n w t
 
 cells-full : (f : List ℕ) (p : ℕ) (cs : List Cell) (n i : ℕ) → i < n → n ≤ length cs → T (formed (take n cs) (cut f p (take n cs)))
-    → IsNumber (cellOf (getElem? cs i)) → length (printed (cellOf (getElem? cs i)) f p) ≡ cellOf (getElem? cs i) .width
+    → IsNumber (cellOf (getElem? cs i)) → length (printedCell (cellOf (getElem? cs i)) f p) ≡ cellOf (getElem? cs i) .width
 cells-full f p [] n i h l t k = absurd (omega arith)
 cells-full f p (c ∷ cs) zero i h l t k = absurd (omega arith)
 cells-full f p (c ∷ cs) (suc n) zero h l t k =
@@ -41,18 +42,18 @@ cells-full f p (c ∷ cs) (suc n) (suc i) h l t k =
     cells-full f p cs n i (omega arith) (omega arith) (and-both (fieldFormed (c .kind) field) _ t .1) k
 
 -- the first fields of a C, and the mark of each part
-first-numbers : (i : ℕ) → i < 9 → IsNumber (cellAt false i)
+first-numbers : (i : ℕ) → i < numbersOfPaymentLine → IsNumber (cellAt false i)
 unfolding below numeral toSectionEnd toNextPart
-first-numbers i h = (agree (λ i. cellAt false i .text) (λ i. false) 9 i refl h, agree (λ i. cellAt false i .optional) (λ i. false) 9 i refl h)
+first-numbers i h = (agree (λ i. cellAt false i .text) (λ i. false) numbersOfPaymentLine i refl h, agree (λ i. cellAt false i .optional) (λ i. false) numbersOfPaymentLine i refl h)
 
-marks : (k : ℕ) → k < 15 → IsNumber (cellAt false (12 + 2 * k))
+marks : (k : ℕ) → k < mostParts → IsNumber (cellAt false (fieldsWith k))
 unfolding below numeral toSectionEnd toNextPart
 marks k h =
-    (agree (λ k. cellAt false (12 + 2 * k) .text) (λ k. false) 15 k refl h, agree (λ k. cellAt false (12 + 2 * k) .optional) (λ k. false) 15 k refl h)
+    (agree (λ k. cellAt false (fieldsWith k) .text) (λ k. false) mostParts k refl h, agree (λ k. cellAt false (fieldsWith k) .optional) (λ k. false) mostParts k refl h)
 
 module _ (n : ℕ) (f : List ℕ) (p : ℕ) (l : Lies false n f p) (t : Formed false n f p) where
-  pub first-full : (i : ℕ) → i < 9 → i < n → length (fieldAt false i f p) ≡ cellAt false i .width
+  pub first-full : (i : ℕ) → i < numbersOfPaymentLine → i < n → length (printedField false i f p) ≡ cellAt false i .width
   first-full i h k = cells-full f p (cellsOf false) n i k (l .0) t (first-numbers i h)
 
-  pub mark-full : (k : ℕ) → k < 15 → 12 + 2 * k < n → length (fieldAt false (12 + 2 * k) f p) ≡ cellAt false (12 + 2 * k) .width
-  mark-full k h j = cells-full f p (cellsOf false) n (12 + 2 * k) j (l .0) t (marks k h)
+  pub mark-full : (k : ℕ) → k < mostParts → fieldsWith k < n → length (printedField false (fieldsWith k) f p) ≡ cellAt false (fieldsWith k) .width
+  mark-full k h j = cells-full f p (cellsOf false) n (fieldsWith k) j (l .0) t (marks k h)

@@ -1,6 +1,6 @@
 -- A line printed into the output, field by field: what is still to come is written where the code stands, and the line is whole.
 -- Assumes nothing.
-use Prim.Native.Nat.{ℕ, zero, suc, _+_, _-_, _*_, _≤_, _<_}
+use Prim.Native.Nat.{ℕ, zero, suc, _+_, _-_, _≤_, _<_}
 use native.Mathlib.Nat.{add-zero}
 use native.Mathlib.Numerals.{add-one}
 use native.Mathlib.Omega.{arith}
@@ -11,13 +11,13 @@ use lib.ListN.{length, take, drop, set, getElem?, length-append, length-take, le
 use lib.Seq.{take-take}
 use Rattle.form.specs.Kind.{width}
 use Rattle.listing.specs.Lines.{tab, lineEnd, behindTabs, trim}
-use Rattle.listing.specs.Records.{Cell, cut}
+use Rattle.listing.specs.Records.{numbersOfPaymentLine, fieldsWith, Cell, cut}
 use Rattle.listing.proofs.LineLaws.{length-trim, trim-take}
-use Rattle.pen.specs.declared.Cell.{Cell as CodeCell}
-use Rattle.pen.specs.Writing.{over, overIfRoom}
-use Rattle.pen.specs.Walking.{letterOf, cellsOf, cellOf, cellAt}
-use Rattle.pen.proofs.OverLaws.{over-room, over-length, over-nothing, over-next, over-more}
-use Rattle.lister.specs.Printing.{lineAt, Lies, printed, FieldLies, fieldAt, numbersAt, partAt}
+use Rattle.layout.specs.declared.Cell.{Cell as CodeCell}
+use Rattle.output.specs.Writing.{over, overIfRoom}
+use Rattle.layout.specs.Cells.{letterOf, cellsOf, cellOf, cellAt}
+use Rattle.output.proofs.OverLaws.{over-room, over-length, over-nothing, over-next, over-more}
+use Rattle.lister.specs.Printing.{lineAt, Lies, printedCell, FieldLies, printedField, numbersAt, partAt}
 use Rattle.lister.proofs.LineLaws.{tabbed, part-is}
 
 -- ---- one field
@@ -38,12 +38,12 @@ module _ (head : Bool) (i : ℕ) (f : List ℕ) (p : ℕ) {c : CodeCell} (e : c 
   pub cell-inside : FieldLies head i f p → p + (c .place + c .width) ≤ length f
   cell-inside l = subst (λ (x : CodeCell). p + (x .place + x .width) ≤ length f) (sym e) l
 
-  pub cell-printed : printed c f p ≡ fieldAt head i f p
-  cell-printed = ap (λ (x : CodeCell). printed x f p) e
+  pub cell-printed : printedCell c f p ≡ printedField head i f p
+  cell-printed = ap (λ (x : CodeCell). printedCell x f p) e
 
   -- all bytes of the cell are printed
-  pub cell-full : length (fieldAt head i f p) ≡ cellAt head i .width → c .width ≡ length (printed c f p)
-  cell-full l = subst (λ (x : CodeCell). x .width ≡ length (printed x f p)) (sym e) (sym l)
+  pub cell-full : length (printedField head i f p) ≡ cellAt head i .width → c .width ≡ length (printedCell c f p)
+  cell-full l = subst (λ (x : CodeCell). x .width ≡ length (printedCell x f p)) (sym e) (sym l)
 
 -- a byte set is a byte written over
 set-over : (q b : ℕ) (old : List ℕ) → q < length old → set old q b ≡ over q (b ∷ []) old
@@ -108,7 +108,7 @@ module _ {rest : ℕ → List ℕ} where
 -- ---- what comes of a line
 
 cut-more : (f : List ℕ) (p : ℕ) (cs : List Cell) (n i : ℕ) → i < n → n ≤ length cs
-    → cut f p (drop i (take n cs)) ≡ printed (cellOf (getElem? cs i)) f p ∷ cut f p (drop (suc i) (take n cs))
+    → cut f p (drop i (take n cs)) ≡ printedCell (cellOf (getElem? cs i)) f p ∷ cut f p (drop (suc i) (take n cs))
 cut-more f p [] n i h l = absurd (omega arith)
 cut-more f p (c ∷ cs) zero i h l = absurd (omega arith)
 cut-more f p (c ∷ cs) (suc n) zero h l = refl
@@ -124,46 +124,46 @@ cut-parted f p (c ∷ cs) (suc n) (suc m) h =
 
 -- of the numbers that the line of a payment begins with
 abbrev pub numbersFrom : List ℕ → ℕ → ℕ → List ℕ
-numbersFrom f p i = tabbed f p (drop i (take 9 (cellsOf false)))
+numbersFrom f p i = tabbed f p (drop i (take numbersOfPaymentLine (cellsOf false)))
 
-pub numbers-more : (f : List ℕ) (p i : ℕ) → i < 9 → numbersFrom f p i ≡ (tab ∷ fieldAt false i f p) ++ numbersFrom f p (suc i)
-numbers-more f p i h = ap behindTabs (cut-more f p (cellsOf false) 9 i h (omega arith))
+pub numbers-more : (f : List ℕ) (p i : ℕ) → i < numbersOfPaymentLine → numbersFrom f p i ≡ (tab ∷ printedField false i f p) ++ numbersFrom f p (suc i)
+numbers-more f p i h = ap behindTabs (cut-more f p (cellsOf false) numbersOfPaymentLine i h (omega arith))
 
 -- of the line, with its end
 abbrev pub restOf : Bool → ℕ → List ℕ → ℕ → ℕ → List ℕ
 restOf head n f p i = tabbed f p (drop i (take n (cellsOf head))) ++ (lineEnd ∷ [])
 
 module _ (head : Bool) (n : ℕ) (f : List ℕ) (p : ℕ) (l : Lies head n f p) where
-  rest-field : (i : ℕ) → i < n → restOf head n f p i ≡ (tab ∷ fieldAt head i f p) ++ restOf head n f p (i + 1)
+  rest-field : (i : ℕ) → i < n → restOf head n f p i ≡ (tab ∷ printedField head i f p) ++ restOf head n f p (i + 1)
   rest-field i h =
       rw (cut-more f p (cellsOf head) n i h (l .0), add-one i)
-      (append-assoc (tab ∷ fieldAt head i f p) (tabbed f p (drop (suc i) (take n (cellsOf head)))) (lineEnd ∷ []))
+      (append-assoc (tab ∷ printedField head i f p) (tabbed f p (drop (suc i) (take n (cellsOf head)))) (lineEnd ∷ []))
 
   -- the next field
   module _ {old out : List ℕ} {from at j i : ℕ} (g : Going (restOf head n f p) old from j out at i) (h : i < n) where
-    pub field-room : at + suc (length (fieldAt head i f p)) ≤ length out
-    field-room = going-room g (tab ∷ fieldAt head i f p) (i + 1) (rest-field i h)
+    pub field-room : at + suc (length (printedField head i f p)) ≤ length out
+    field-room = going-room g (tab ∷ printedField head i f p) (i + 1) (rest-field i h)
 
-    pub field-more : {out′ : List ℕ} {at′ : ℕ} → at′ ≡ at + suc (length (fieldAt head i f p)) → out′ ≡ over at (tab ∷ fieldAt head i f p) out
+    pub field-more : {out′ : List ℕ} {at′ : ℕ} → at′ ≡ at + suc (length (printedField head i f p)) → out′ ≡ over at (tab ∷ printedField head i f p) out
         → Going (restOf head n f p) old from j out′ at′ (i + 1)
-    field-more = going-more g (tab ∷ fieldAt head i f p) (i + 1) (rest-field i h)
+    field-more = going-more g (tab ∷ printedField head i f p) (i + 1) (rest-field i h)
 
 -- a payment has numbers first and parts last
 module _ (n : ℕ) (f : List ℕ) (p : ℕ) (l : Lies false n f p) where
-  pub rest-numbers : 9 ≤ n → restOf false n f p 0 ≡ numbersAt f p ++ restOf false n f p 9
+  pub rest-numbers : numbersOfPaymentLine ≤ n → restOf false n f p 0 ≡ numbersAt f p ++ restOf false n f p numbersOfPaymentLine
   rest-numbers h =
-      ap (λ bs. bs ++ (lineEnd ∷ [])) (cut-parted f p (cellsOf false) n 9 h)
-      ∙ append-assoc (numbersAt f p) (tabbed f p (drop 9 (take n (cellsOf false)))) (lineEnd ∷ [])
+      ap (λ bs. bs ++ (lineEnd ∷ [])) (cut-parted f p (cellsOf false) n numbersOfPaymentLine h)
+      ∙ append-assoc (numbersAt f p) (tabbed f p (drop numbersOfPaymentLine (take n (cellsOf false)))) (lineEnd ∷ [])
 
-  pub rest-part : (part : ℕ) → 12 + 2 * part + 1 < n → restOf false n f p (12 + 2 * part) ≡ partAt part f p ++ restOf false n f p (12 + 2 * (part + 1))
+  pub rest-part : (part : ℕ) → fieldsWith part + 1 < n → restOf false n f p (fieldsWith part) ≡ partAt part f p ++ restOf false n f p (fieldsWith (part + 1))
   rest-part part h =
-      let mark = 12 + 2 * part in
-      let m = tab ∷ fieldAt false mark f p in
-      let t = tab ∷ fieldAt false (mark + 1) f p in
-      let next : mark + 1 + 1 ≡ 12 + 2 * (part + 1) = omega arith in
+      let mark = fieldsWith part in
+      let m = tab ∷ printedField false mark f p in
+      let t = tab ∷ printedField false (mark + 1) f p in
+      let next : mark + 1 + 1 ≡ fieldsWith (part + 1) = omega arith in
       rest-field false n f p l mark (omega arith)
       ∙ ap (λ bs. m ++ bs) (rest-field false n f p l (mark + 1) h ∙ ap (λ i. t ++ restOf false n f p i) next)
-      ∙ sym (append-assoc m t (restOf false n f p (12 + 2 * (part + 1))))
+      ∙ sym (append-assoc m t (restOf false n f p (fieldsWith (part + 1))))
 
 -- ---- the line
 

@@ -1,28 +1,24 @@
 // Listing: the file is checked, then the room in the output, and only then is a byte written.
 ghost use mathlib.Core.Path.{_≡_};
-ghost use Prim.Native.Nat.{suc, _+_, _*_, _≤_, _<_};
+ghost use Prim.Native.Nat.{suc, _+_, _≤_, _<_};
 ghost use mathlib.Core.Bool.{true, false};
 ghost use mathlib.Core.List.{_∷_};
 ghost use lib.ListN.{length, take, drop};
-ghost use lib.Dec.{T, leb};
-ghost use Rattle.form.specs.Kind.{every, digit};
-ghost use Rattle.form.specs.Reader.{number};
-ghost use Rattle.rules.specs.Answer.{answer, filled};
+ghost use lib.Dec.{leb};
+ghost use Rattle.verdict.specs.Lent.{filled};
+ghost use Rattle.document.specs.Marks.{mostParts};
+ghost use Rattle.diskette.specs.Answer.{answer};
 ghost use Rattle.listing.specs.Lines.{tab, trim};
-ghost use Rattle.listing.specs.Endings.{listed, within, bytesOf};
-ghost use Rattle.pen.specs.Writing.{over, writtenOf};
-ghost use Rattle.pen.specs.Walking.{cellAt};
-ghost use Rattle.lister.specs.Printing.{lineAt, Lies, Formed, FieldLies, fieldAt, NumbersLie, numbersAt, PartLies, partAt, Accepted};
-use fields::numbers;
-use pen::Written;
-
-// How many numbers the line of a payment begins with.
-const NUMBERS: usize = 9;
-
-// How wide the mark of a part is, and its text.
-const MARK: usize = 2;
-
-const TEXT: usize = 27;
+ghost use Rattle.listing.specs.Records.{fieldsOfHeaderLine, fieldsWith};
+ghost use Rattle.listing.specs.Endings.{listed, within, written};
+ghost use Rattle.output.specs.Writing.{over, writtenOf};
+ghost use Rattle.layout.specs.Cells.{cellAt};
+ghost use Rattle.lister.specs.Printing.{lineAt, Lies, Formed, FieldLies, printedField, NumbersLie, numbersAt, PartLies, partAt, AcceptedFile};
+use fields::refusals;
+use layout::length;
+use layout::line;
+use layout::width;
+use output::Written;
 
 // How many bytes of t there are without its trailing blanks.
 fn trimmed(t: &[u8]) -> usize
@@ -43,10 +39,11 @@ fn line_length(head: bool, n: usize, s: &[u8], p: usize) -> usize
     requires { ⌜ Lies head n (now s) p ⌝ }
     ensures { λ r. ⌜ r ≡ length (lineAt head n (now (s .entry)) p) ⌝ }
 {
+    // The letter and the line's end.
     let mut length = 2;
     let mut i = 0;
     while i < n {
-        let c = pen::cell_at(head, i);
+        let c = layout::cell_at(head, i);
         let a = p + c.place;
         length += 1 + trimmed(&s[a..a + c.width]);
         i += 1;
@@ -60,8 +57,8 @@ fn print_behind_tab(t: &[u8], out: &mut [u8], at: usize) -> usize
     ensures place { λ r. ⌜ r ≡ at + suc (length (now (t .entry))) ⌝ }
     ensures out { λ _. ⌜ now (out .exit) ≡ over at (tab ∷ now (t .entry)) (now (out .entry)) ⌝ }
 {
-    out[at] = pen::TAB;
-    pen::copy(out, at + 1, t);
+    out[at] = line::TAB;
+    output::copy(out, at + 1, t);
     at + 1 + t.len()
 }
 
@@ -77,43 +74,44 @@ fn print_trimmed(s: &[u8], a: usize, w: usize, out: &mut [u8], at: usize) -> usi
 
 // Prints field i of the record at p so.
 fn print_field(head: bool, i: usize, s: &[u8], p: usize, out: &mut [u8], at: usize) -> usize
-    requires { ⌜ FieldLies head i (now s) p × (at + suc (length (fieldAt head i (now s) p)) ≤ length (now out)) ⌝ }
-    ensures place { λ r. ⌜ r ≡ at + suc (length (fieldAt head i (now (s .entry)) p)) ⌝ }
-    ensures out { λ _. ⌜ now (out .exit) ≡ over at (tab ∷ fieldAt head i (now (s .entry)) p) (now (out .entry)) ⌝ }
+    requires { ⌜ FieldLies head i (now s) p × (at + suc (length (printedField head i (now s) p)) ≤ length (now out)) ⌝ }
+    ensures place { λ r. ⌜ r ≡ at + suc (length (printedField head i (now (s .entry)) p)) ⌝ }
+    ensures out { λ _. ⌜ now (out .exit) ≡ over at (tab ∷ printedField head i (now (s .entry)) p) (now (out .entry)) ⌝ }
 {
-    let c = pen::cell_at(head, i);
+    let c = layout::cell_at(head, i);
     print_trimmed(s, p + c.place, c.width, out, at)
 }
 
 // Prints field i of the payment at p, a number: it stands there in full width, so that no blank is looked for.
 fn print_number(i: usize, s: &[u8], p: usize, out: &mut [u8], at: usize) -> usize
-    requires { ⌜ FieldLies false i (now s) p × (length (fieldAt false i (now s) p) ≡ cellAt false i .width) × (at + suc (length (fieldAt false i (now s) p)) ≤ length (now out)) ⌝ }
-    ensures place { λ r. ⌜ r ≡ at + suc (length (fieldAt false i (now (s .entry)) p)) ⌝ }
-    ensures out { λ _. ⌜ now (out .exit) ≡ over at (tab ∷ fieldAt false i (now (s .entry)) p) (now (out .entry)) ⌝ }
+    requires { ⌜ FieldLies false i (now s) p × (length (printedField false i (now s) p) ≡ cellAt false i .width) × (at + suc (length (printedField false i (now s) p)) ≤ length (now out)) ⌝ }
+    ensures place { λ r. ⌜ r ≡ at + suc (length (printedField false i (now (s .entry)) p)) ⌝ }
+    ensures out { λ _. ⌜ now (out .exit) ≡ over at (tab ∷ printedField false i (now (s .entry)) p) (now (out .entry)) ⌝ }
 {
-    let c = pen::cell_at(false, i);
+    let c = layout::cell_at(false, i);
     let a = p + c.place;
     print_behind_tab(&s[a..a + c.width], out, at)
 }
 
 // Prints the line of A from the start of the output on, and tells the place behind it.
 fn print_header(s: &[u8], out: &mut [u8]) -> usize
-    requires { ⌜ Lies true 8 (now s) 0 × (0 + length (lineAt true 8 (now s) 0) ≤ length (now out)) ⌝ }
-    ensures place { λ r. ⌜ r ≡ 0 + length (lineAt true 8 (now (s .entry)) 0) ⌝ }
-    ensures out { λ _. ⌜ now (out .exit) ≡ over 0 (lineAt true 8 (now (s .entry)) 0) (now (out .entry)) ⌝ }
+    requires { ⌜ Lies true fieldsOfHeaderLine (now s) 0 × (0 + length (lineAt true fieldsOfHeaderLine (now s) 0) ≤ length (now out)) ⌝ }
+    ensures place { λ r. ⌜ r ≡ 0 + length (lineAt true fieldsOfHeaderLine (now (s .entry)) 0) ⌝ }
+    ensures out { λ _. ⌜ now (out .exit) ≡ over 0 (lineAt true fieldsOfHeaderLine (now (s .entry)) 0) (now (out .entry)) ⌝ }
 {
-    out[0] = pen::letter(true);
+    out[0] = output::letter(true);
     let mut at = 1;
     let mut i = 0;
-    while i < pen::FIELDS_OF_A {
+    while i < line::FIELDS_OF_A {
         at = print_field(true, i, s, 0, out, at);
         i += 1;
     }
-    out[at] = pen::LINE_END;
+    out[at] = line::END;
     at + 1
 }
 
-// Prints the numbers that the line of a payment begins with. They are written out one by one, so that the compiler knows the width of each.
+// Prints the numbers that the line of a payment begins with, `line::NUMBERS_OF_C` of them. Each has a call of its own, and no loop counts them, so
+// that the compiler knows the width of each.
 fn print_numbers(s: &[u8], p: usize, out: &mut [u8], at: usize) -> usize
     requires { ⌜ NumbersLie (now s) p × (at + length (numbersAt (now s) p) ≤ length (now out)) ⌝ }
     ensures place { λ r. ⌜ r ≡ at + length (numbersAt (now (s .entry)) p) ⌝ }
@@ -132,26 +130,26 @@ fn print_numbers(s: &[u8], p: usize, out: &mut [u8], at: usize) -> usize
 
 // Prints mark and text of a part of the payment at p. All parts have the same widths.
 fn print_part(part: usize, s: &[u8], p: usize, out: &mut [u8], at: usize) -> usize
-    requires { ⌜ (part < 15) × PartLies part (now s) p × (at + length (partAt part (now s) p) ≤ length (now out)) ⌝ }
+    requires { ⌜ (part < mostParts) × PartLies part (now s) p × (at + length (partAt part (now s) p) ≤ length (now out)) ⌝ }
     ensures place { λ r. ⌜ r ≡ at + length (partAt part (now (s .entry)) p) ⌝ }
     ensures out { λ _. ⌜ now (out .exit) ≡ over at (partAt part (now (s .entry)) p) (now (out .entry)) ⌝ }
 {
-    let c = pen::cell_at(false, pen::FIELDS_OF_C + 2 * part);
+    let c = layout::cell_at(false, line::FIELDS_OF_C + 2 * part);
     let a = p + c.place;
-    let q = print_behind_tab(&s[a..a + MARK], out, at);
-    print_trimmed(s, a + MARK, TEXT, out, q)
+    let q = print_behind_tab(&s[a..a + width::MARK], out, at);
+    print_trimmed(s, a + width::MARK, width::TEXT, out, q)
 }
 
 // Prints the line of the payment at p, of k parts, into the output from q on, and tells the place behind it.
 fn print_payment(k: usize, s: &[u8], p: usize, out: &mut [u8], q: usize) -> usize
-    requires { ⌜ Lies false (12 + 2 * k) (now s) p × Formed false (12 + 2 * k) (now s) p × (q + length (lineAt false (12 + 2 * k) (now s) p) ≤ length (now out)) ⌝ }
-    ensures place { λ r. ⌜ r ≡ q + length (lineAt false (12 + 2 * k) (now (s .entry)) p) ⌝ }
-    ensures out { λ _. ⌜ now (out .exit) ≡ over q (lineAt false (12 + 2 * k) (now (s .entry)) p) (now (out .entry)) ⌝ }
+    requires { ⌜ Lies false (fieldsWith k) (now s) p × Formed false (fieldsWith k) (now s) p × (q + length (lineAt false (fieldsWith k) (now s) p) ≤ length (now out)) ⌝ }
+    ensures place { λ r. ⌜ r ≡ q + length (lineAt false (fieldsWith k) (now (s .entry)) p) ⌝ }
+    ensures out { λ _. ⌜ now (out .exit) ≡ over q (lineAt false (fieldsWith k) (now (s .entry)) p) (now (out .entry)) ⌝ }
 {
-    out[q] = pen::letter(false);
+    out[q] = output::letter(false);
     let mut at = print_numbers(s, p, out, q + 1);
-    let mut i = NUMBERS;
-    while i < pen::FIELDS_OF_C {
+    let mut i = line::NUMBERS_OF_C;
+    while i < line::FIELDS_OF_C {
         at = print_field(false, i, s, p, out, at);
         i += 1;
     }
@@ -160,41 +158,31 @@ fn print_payment(k: usize, s: &[u8], p: usize, out: &mut [u8], q: usize) -> usiz
         at = print_part(part, s, p, out, at);
         part += 1;
     }
-    out[at] = pen::LINE_END;
+    out[at] = line::END;
     at + 1
-}
-
-// The number of parts of the payment at p, C18. The file has been accepted, so its digits are not tested again.
-fn parts_at(s: &[u8], p: usize) -> usize
-    requires { ⌜ (p + 187 ≤ length (now s)) × T (every digit (take 2 (drop (p + 185) (now s)))) ⌝ }
-    ensures { λ r. ⌜ r ≡ number (take 2 (drop (p + 185) (now (s .entry)))) ⌝ }
-{
-    let tens = s[p + pen::PARTS] as usize - b'0' as usize;
-    let ones = s[p + pen::PARTS + 1] as usize - b'0' as usize;
-    tens * 10 + ones
 }
 
 // The length of the listing of an accepted file of n payments.
 fn listing_length(s: &[u8], n: usize) -> usize
-    requires { ⌜ Accepted n (now s) ⌝ }
-    ensures { λ r. ⌜ r ≡ length (bytesOf (listed (answer (now (s .entry))))) ⌝ }
+    requires { ⌜ AcceptedFile n (now s) ⌝ }
+    ensures { λ r. ⌜ r ≡ length (written (listed (answer (now (s .entry))))) ⌝ }
 {
-    let mut length = line_length(true, pen::FIELDS_OF_A, s, 0);
-    let mut p = pen::FIRST_PAYMENT;
+    let mut total = line_length(true, line::FIELDS_OF_A, s, 0);
+    let mut p = length::A;
     let mut row = 0;
     while row < n {
-        let k = parts_at(s, p);
-        length += line_length(false, pen::FIELDS_OF_C + 2 * k, s, p);
-        p += pen::bytes_of(k);
+        let k = parts::count_at(s, p);
+        total += line_length(false, line::FIELDS_OF_C + 2 * k, s, p);
+        p += layout::bytes_of(k);
         row += 1;
     }
-    length
+    total
 }
 
 // Whether an output of so many bytes has room for it.
 fn has_room(s: &[u8], n: usize, room: usize) -> bool
-    requires { ⌜ Accepted n (now s) ⌝ }
-    ensures { λ r. ⌜ r ≡ leb (length (bytesOf (listed (answer (now (s .entry)))))) room ⌝ }
+    requires { ⌜ AcceptedFile n (now s) ⌝ }
+    ensures { λ r. ⌜ r ≡ leb (length (written (listed (answer (now (s .entry)))))) room ⌝ }
 {
     // No listing is longer than its file, so that lines are measured only where the output is shorter.
     if s.len() <= room {
@@ -205,17 +193,17 @@ fn has_room(s: &[u8], n: usize, room: usize) -> bool
 
 // Prints it, and tells its length.
 fn print_listing(s: &[u8], n: usize, out: &mut [u8]) -> usize
-    requires { ⌜ Accepted n (now s) × (length (bytesOf (listed (answer (now s)))) ≤ length (now out)) ⌝ }
-    ensures length { λ r. ⌜ r ≡ length (bytesOf (listed (answer (now (s .entry))))) ⌝ }
-    ensures out { λ _. ⌜ now (out .exit) ≡ filled (bytesOf (listed (answer (now (s .entry))))) (now (out .entry)) ⌝ }
+    requires { ⌜ AcceptedFile n (now s) × (length (written (listed (answer (now s)))) ≤ length (now out)) ⌝ }
+    ensures length { λ r. ⌜ r ≡ length (written (listed (answer (now (s .entry))))) ⌝ }
+    ensures out { λ _. ⌜ now (out .exit) ≡ filled (written (listed (answer (now (s .entry))))) (now (out .entry)) ⌝ }
 {
     let mut q = print_header(s, out);
-    let mut p = pen::FIRST_PAYMENT;
+    let mut p = length::A;
     let mut row = 0;
     while row < n {
-        let k = parts_at(s, p);
+        let k = parts::count_at(s, p);
         q = print_payment(k, s, p, out, q);
-        p += pen::bytes_of(k);
+        p += layout::bytes_of(k);
         row += 1;
     }
     q
@@ -224,20 +212,19 @@ fn print_listing(s: &[u8], n: usize, out: &mut [u8]) -> usize
 // Lists a file: one line for A, one for each payment. What a refused call is lent it leaves as it was.
 pub fn list(s: &[u8], out: &mut [u8]) -> Written
     ensures answer { λ r. ⌜ r ≡ writtenOf (within (length (now (out .entry))) (listed (answer (now (s .entry))))) ⌝ }
-    ensures out { λ _. ⌜ now (out .exit) ≡ filled (bytesOf (within (length (now (out .entry))) (listed (answer (now (s .entry)))))) (now (out .entry)) ⌝ }
+    ensures out { λ _. ⌜ now (out .exit) ≡ filled (written (within (length (now (out .entry))) (listed (answer (now (s .entry)))))) (now (out .entry)) ⌝ }
 {
     let checked = checker::check(s);
-    if checked.number != 0 {
-        return pen::refused(checked.number, checked.place);
+    if checked.verdict.number != 0 {
+        return output::refused(checked.verdict);
     }
     let n = checked.count as usize;
     if !has_room(s, n, out.len()) {
-        return pen::refused(numbers::NO_ROOM, 0);
+        return output::refused(verdict::refuse(refusals::NO_ROOM, 0));
     }
     let length = print_listing(s, n, out);
     Written {
-        number: 0,
-        place: 0,
+        verdict: verdict::ACCEPTED,
         length: length,
     }
 }

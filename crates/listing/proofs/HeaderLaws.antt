@@ -7,16 +7,16 @@ use mathlib.Core.List.{List, _∷_, _++_}
 use lib.Dec.{T}
 use Rattle.form.specs.Kind.{maybe}
 use Rattle.form.proofs.RulesLaws.{_▸_}
-use Rattle.rules.specs.Signs.{ascii}
-use Rattle.rules.specs.Calendar.{Day, toDDMMYY, toDDMMYYYY}
-use Rattle.rules.specs.Values.{Header}
-use Rattle.rules.specs.Rules.{LegalExecution, LegalHeader}
-use Rattle.rules.specs.Writing.{writeExecution, writeHeader}
-use Rattle.rules.specs.Fields.{header}
-use Rattle.rules.proofs.CalendarLaws.{see-day}
-use Rattle.rules.proofs.DateLaws.{short-fits, long-fits}
-use Rattle.rules.proofs.FieldLaws.{kind-length}
-use Rattle.rules.proofs.HeaderSays.{header-says}
+use Rattle.document.specs.Signs.{ascii}
+use Rattle.document.specs.Calendar.{Day, toDDMMYY, toDDMMYYYY}
+use Rattle.document.specs.Values.{Header}
+use Rattle.document.specs.Rules.{LegalExecution, LegalHeader}
+use Rattle.diskette.specs.Writing.{writeExecution, writeHeader}
+use Rattle.diskette.specs.Fields.{header}
+use Rattle.document.proofs.CalendarLaws.{see-day}
+use Rattle.document.proofs.DateLaws.{short-fits, long-fits}
+use Rattle.document.proofs.FieldLaws.{kind-length}
+use Rattle.diskette.proofs.HeaderSays.{header-says}
 use Rattle.listing.specs.Lines.{tab, lineEnd}
 use Rattle.listing.specs.Listing.{printExecution, headerFields}
 use Rattle.listing.specs.Records.{recordA, pad, lay, cells, formed}
@@ -41,8 +41,8 @@ header-laid h l =
     rw (
       pad-whole 2 (h .fileKind) (kind-length (h .fileKind) (l .A3)),
       pad-number 8 (h .bankCode),
-      pad-number 8 (h .senderBank),
-      pad-trim 27 (h .sender) (l .A6 .long),
+      pad-number 8 (h .sendingBank),
+      pad-trim 27 (h .fileSender) (l .A6 .long),
       pad-number 6 (toDDMMYY (h .made)),
       pad-number 10 (h .account),
       pad-number 10 (h .reference),
@@ -57,8 +57,8 @@ header-printed : (h : Header) → LegalHeader h → AllPrinted (cells 0 recordA)
 header-printed h l =
     kind-printed (h .fileKind) (l .A3)
     ▸ number-printed 8 (h .bankCode) (l .A4)
-    ▸ number-printed 8 (h .senderBank) (l .A5)
-    ▸ text-printed (h .sender) (l .A6)
+    ▸ number-printed 8 (h .sendingBank) (l .A5)
+    ▸ text-printed (h .fileSender) (l .A6)
     ▸ number-printed 6 (toDDMMYY (h .made)) (short-fits (h .made) (see-day (h .made) (l .A7)))
     ▸ number-printed 10 (h .account) (l .A9)
     ▸ number-printed 10 (h .reference) (l .A10)

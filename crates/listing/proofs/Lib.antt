@@ -1,10 +1,9 @@
 pub mod LineLaws
 pub mod RecordLaws
-pub mod ReadingLaws
 pub mod ComposingLaws
 pub mod PrintedLaws
 pub mod HeaderLaws
 pub mod PaymentLaws
 pub mod LinesLaws
 pub mod NumberLaws
-pub mod Rounds
+pub mod Promises

@@ -10,7 +10,7 @@ use lib.Seq.{length-take-le, take-all, take-at, take-append-seam}
 use lib.Dec.{T, eqb, eqb→eq, eqb-refl}
 use Rattle.form.specs.Kind.{every, blanks}
 use Rattle.form.proofs.BoolLaws.{is-true, T-of, and-both, and-of}
-use Rattle.rules.specs.Rules.{All}
+use Rattle.document.specs.Rules.{All}
 use Rattle.listing.specs.Lines.{tab, lineEnd, behindTabs, line, onto, split, empty, trim, endsInBlank}
 use Rattle.listing.specs.Records.{pad}
 

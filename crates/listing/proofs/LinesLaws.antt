@@ -7,13 +7,14 @@ use mathlib.Core.List.{List, [], _∷_, _++_}
 use lib.ListN.{length}
 use lib.Dec.{T, leb, leb→le, le→leb}
 use Rattle.form.proofs.BoolLaws.{is-true}
-use Rattle.rules.specs.Signs.{ascii}
-use Rattle.rules.specs.Values.{Payment, Totals, noTotals, adding}
-use Rattle.rules.specs.Rules.{mostPayments}
-use Rattle.rules.specs.Writing.{lengthOf}
-use Rattle.rules.proofs.PaymentSays.{GoodPayment}
-use Rattle.rules.proofs.EndSays.{Within}
-use Rattle.rules.proofs.FileSays.{GoodFrom}
+use Rattle.verdict.specs.Verdicts.{refusing}
+use Rattle.document.specs.Signs.{ascii}
+use Rattle.document.specs.Values.{Payment, Totals, noTotals, adding}
+use Rattle.document.specs.Rules.{mostPayments}
+use Rattle.diskette.specs.Writing.{lengthOf}
+use Rattle.diskette.proofs.PaymentSays.{GoodPayment}
+use Rattle.diskette.proofs.EndSays.{Within}
+use Rattle.diskette.proofs.FileSays.{GoodFrom}
 use Rattle.listing.specs.Lines.{tab, lineEnd, behindTabs, split, empty}
 use Rattle.listing.specs.Listing.{paymentFields, paymentLines}
 use Rattle.listing.specs.Composing.{made, andThen, composeHeader, composePayment, composePayments, composeLines}
@@ -99,8 +100,8 @@ pub payments-heard : (left : ℕ) (kind : List ℕ) (t : Totals) (p : ℕ) (xs :
 unfolding composePayments
 payments-heard left kind t p [] qs c w e = absurd (made-or-denied (sym e))
 payments-heard left kind t p (x ∷ []) qs c w e =
-    let a = provided-made (empty x) 17 p _ qs e in
-    let b = provided-made (leb 1 (t .count)) 18 p _ qs a.1 in
+    let a = provided-made (empty x) (refusing 17 p) _ qs e in
+    let b = provided-made (leb 1 (t .count)) (refusing 18 p) _ qs a.1 in
     let none : [] ≡ qs = cc in
     let n = leb→le 1 (t .count) b.0 in
     rw (← none, empty-is x a.0) (

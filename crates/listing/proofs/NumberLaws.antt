@@ -17,11 +17,12 @@ use Rattle.form.proofs.KindLaws.{same-eq}
 use Rattle.form.proofs.RulesLaws.{_▸_}
 use Rattle.form.proofs.NumberLaws.{Numbered}
 use Rattle.form.proofs.PlaceLaws.{run-read}
-use Rattle.rules.specs.Signs.{ascii}
-use Rattle.rules.specs.Values.{Document, Totals, noTotals, adding}
-use Rattle.rules.specs.Fields.{Name, header}
-use Rattle.rules.specs.Answer.{numberOf}
-use Rattle.rules.proofs.Numbers.{ofRule, refusal-number, header-numbers, payment-numbers}
+use Rattle.verdict.specs.declared.Verdict.{Verdict}
+use Rattle.verdict.specs.Verdicts.{refusing, numberOf}
+use Rattle.document.specs.Signs.{ascii}
+use Rattle.document.specs.Values.{Document, Totals, noTotals, adding}
+use Rattle.diskette.specs.Fields.{Name, header}
+use Rattle.diskette.proofs.Numbers.{ofRule, refusal-number, header-numbers, payment-numbers}
 use Rattle.listing.specs.Lines.{tab, lineEnd, behindTabs, split, empty}
 use Rattle.listing.specs.Records.{Piece, recordA, recordC, partsOf, lay, Cell, cells, inLine, formed}
 use Rattle.listing.specs.Composing.{Composed, made, denied, andThen, provided, heard, composeLine, composeHeader, wholePayment, composePayment, composePayments, composeLines, compose}
@@ -30,16 +31,16 @@ use Rattle.listing.proofs.LineLaws.{join, join-split, line-from}
 -- a refusal has a number above 0, and its place is at most `end`
 abbrev Given : {A : Type 0} → ℕ → Composed A → Type 0
 Given end (made a) = Unit {0}
-Given end (denied n p) = (1 ≤ n) × (p ≤ end)
+Given end (denied v) = (1 ≤ v .number) × (v .place ≤ end)
 
-given-provided : {A : Type 0} (end : ℕ) (b : Bool) (n p : ℕ) (c : Composed A) → (1 ≤ n) × (p ≤ end) → (T b → Given end c)
-    → Given end (provided b n p c)
-given-provided end true n p c g h = h tt
-given-provided end false n p c g h = g
+given-provided : {A : Type 0} (end : ℕ) (b : Bool) (v : Verdict) (c : Composed A) → (1 ≤ v .number) × (v .place ≤ end) → (T b → Given end c)
+    → Given end (provided b v c)
+given-provided end true v c g h = h tt
+given-provided end false v c g h = g
 
 given-then : {A B : Type 0} (end : ℕ) (c : Composed A) (k : A → Composed B) → Given end c → ((a : A) → Given end (k a)) → Given end (andThen c k)
 given-then end (made a) k g h = h a
-given-then end (denied n p) k g h = g
+given-then end (denied v) k g h = g
 
 -- ---- one line
 
@@ -77,7 +78,7 @@ module _ {A : Type 0} (m : Form Name A) (numbers : Numbered ofRule m) where
       by : (us : List (List ℕ)) → split tab x ≡ us → Given end (composeLine m letter ps p us)
       by [] e = (omega arith, omega arith)
       by (t ∷ ts) e =
-          given-provided end (same letter t && formed (cells 0 ps) ts) 17 p _ (omega arith, omega arith) (λ s.
+          given-provided end (same letter t && formed (cells 0 ps) ts) (refusing 17 p) _ (omega arith, omega arith) (λ s.
           let l = same-eq letter t (and-both (same letter t) (formed (cells 0 ps) ts) s .0) in
           read t ts e l (readAt m (lay ps ts) 0) refl)
 
@@ -98,8 +99,8 @@ payments-given : (kind : List ℕ) (t : Totals) (p end : ℕ) (xs : List (List �
 unfolding composePayments
 payments-given kind t p end [] h = (omega arith, omega arith)
 payments-given kind t p end (x ∷ []) h =
-    given-provided end (empty x) 17 p _ (omega arith, omega arith) (λ e.
-    given-provided end (leb 1 (t .count)) 18 p (made []) (omega arith, omega arith) (λ s. tt))
+    given-provided end (empty x) (refusing 17 p) _ (omega arith, omega arith) (λ e.
+    given-provided end (leb 1 (t .count)) (refusing 18 p) (made []) (omega arith, omega arith) (λ s. tt))
 payments-given kind t p end (x ∷ y ∷ ys) h =
     let rest = join lineEnd (y ∷ ys) in
     let long : p + (length x + suc (length rest)) ≤ end = rw (← length-append x (lineEnd ∷ rest)) h in
@@ -110,7 +111,7 @@ payments-given kind t p end (x ∷ y ∷ ys) h =
 lines-given : (end : ℕ) (xs : List (List ℕ)) → length (join lineEnd xs) ≤ end → Given end (composeLines xs)
 unfolding composeLines
 lines-given end [] h = (omega arith, omega arith)
-lines-given end (x ∷ []) h = given-provided end (empty x) 17 0 _ (omega arith, omega arith) (λ e. (omega arith, omega arith))
+lines-given end (x ∷ []) h = given-provided end (empty x) (refusing 17 0) _ (omega arith, omega arith) (λ e. (omega arith, omega arith))
 lines-given end (x ∷ y ∷ ys) h =
     let rest = join lineEnd (y ∷ ys) in
     let long : length x + suc (length rest) ≤ end = rw (← length-append x (lineEnd ∷ rest)) h in
@@ -120,13 +121,13 @@ lines-given end (x ∷ y ∷ ys) h =
 
 -- ---- the listing
 
-module _ (l : List ℕ) (n p : ℕ) (e : compose l ≡ denied n p) where
-  given : (1 ≤ n) × (p ≤ length l)
+module _ (l : List ℕ) (v : Verdict) (e : compose l ≡ denied v) where
+  given : (1 ≤ v .number) × (v .place ≤ length l)
   unfolding compose
   given = subst (λ (c : Composed Document). Given (length l) c) e (lines-given (length l) (split lineEnd l) (rw (join-split lineEnd l) (omega arith)))
 
-  pub never-zero : n ≢ 0
+  pub never-zero : v .number ≢ 0
   never-zero z = omega (arith, given .0)
 
-  pub place-inside : p ≤ length l
+  pub place-inside : v .place ≤ length l
   place-inside = given .1

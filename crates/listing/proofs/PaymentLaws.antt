@@ -16,15 +16,15 @@ use Rattle.form.proofs.BelowLaws.{below, below-all}
 use Rattle.form.proofs.BoolLaws.{or-other}
 use Rattle.form.proofs.KindLaws.{numeral-length, number-numeral}
 use Rattle.form.proofs.RulesLaws.{_▸_, Filling, Told, Says}
-use Rattle.rules.specs.Signs.{ascii}
-use Rattle.rules.specs.Values.{Part, Payment, Totals}
-use Rattle.rules.specs.Rules.{All, Text, mostPayments, mostCents, LegalPayment}
-use Rattle.rules.specs.Writing.{section, toSectionEnd, toNextPart, lengthOf, writeParts, writeBody, writePayment}
-use Rattle.rules.specs.Fields.{firstField}
-use Rattle.rules.proofs.FieldLaws.{key-fits, at-least-one}
-use Rattle.rules.proofs.PartsSays.{markOf}
-use Rattle.rules.proofs.PaymentSays.{GoodPayment, few-parts, payment-says}
-use Rattle.rules.proofs.EndSays.{payment-begins}
+use Rattle.document.specs.Signs.{ascii}
+use Rattle.document.specs.Values.{Part, Payment, Totals}
+use Rattle.document.specs.Rules.{All, Text, mostPayments, mostCents, LegalPayment}
+use Rattle.diskette.specs.Writing.{section, toSectionEnd, toNextPart, lengthOf, writeParts, writeBody, writePayment}
+use Rattle.diskette.specs.Fields.{firstField}
+use Rattle.document.proofs.FieldLaws.{key-fits, at-least-one}
+use Rattle.diskette.proofs.PartsSays.{markOf}
+use Rattle.diskette.proofs.PaymentSays.{GoodPayment, few-parts, payment-says}
+use Rattle.diskette.proofs.EndSays.{payment-begins}
 use Rattle.listing.specs.Lines.{tab, lineEnd}
 use Rattle.listing.specs.Listing.{partFields, paymentFields}
 use Rattle.listing.specs.Records.{recordParts, recordC, partsOf, lay, cells, formed}

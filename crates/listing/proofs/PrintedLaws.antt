@@ -11,9 +11,9 @@ use lib.Dec.{T, leb, eqb, le→leb, eqb→eq, eqb-refl}
 use Rattle.form.specs.Kind.{Kind, digits, maybe, choice, numeral, every, same, among, digit}
 use Rattle.form.proofs.BoolLaws.{T-of, and-both, and-of, or-cases, or-right}
 use Rattle.form.proofs.KindLaws.{same-eq, numeral-length, numeral-digits}
-use Rattle.rules.specs.Signs.{sign}
-use Rattle.rules.specs.Rules.{Text, fileKinds}
-use Rattle.rules.specs.Fields.{text27}
+use Rattle.document.specs.Signs.{sign}
+use Rattle.document.specs.Rules.{Text, fileKinds}
+use Rattle.diskette.specs.Fields.{text27}
 use Rattle.listing.specs.Lines.{tab, lineEnd, trim, endsInBlank}
 use Rattle.listing.specs.Records.{pad, Cell, wide, fieldFormed, formed}
 use Rattle.listing.proofs.LineLaws.{clear, Clear, pad-whole, length-trim, trim-ends, trim-every}

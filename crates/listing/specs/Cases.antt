@@ -5,11 +5,11 @@ use mathlib.Core.Path.{_≡_, refl}
 use mathlib.Core.List.{List, [], _∷_, _++_, map}
 use lib.ListN.{take, set}
 use Rattle.form.specs.Place.{readAt, lookAt}
-use Rattle.rules.specs.Signs.{ascii}
-use Rattle.rules.specs.Calendar.{toDDMMYY}
-use Rattle.rules.specs.Writing.{inTurn}
-use Rattle.rules.specs.Answer.{answer}
-use Rattle.rules.specs.Cases.{fileM, given}
+use Rattle.document.specs.Signs.{ascii}
+use Rattle.document.specs.Calendar.{toDDMMYY}
+use Rattle.diskette.specs.Writing.{inTurn}
+use Rattle.diskette.specs.Answer.{answer}
+use Rattle.diskette.specs.Cases.{fileM, given}
 use Rattle.listing.specs.Lines.{split, trim}
 use Rattle.listing.specs.Composing.{composeHeader, composePayment, composePayments, composeLines, compose}
 use Rattle.listing.specs.Endings.{Ending, writes, refuses, listed, composed}
@@ -175,7 +175,7 @@ cases =
 
 abbrev reached : Ending → ℕ × ℕ
 reached (writes bs) = (0, 0)
-reached (refuses n p) = (n, p)
+reached (refuses v) = (v .number, v .place)
 
 pub cases-hold : map (λ (c : Case). reached (filed (c .listing))) cases ≡ map (λ (c : Case). (c .number, c .place)) cases
 unfolding cases filed

@@ -3,7 +3,7 @@ use Prim.Native.Nat.{ℕ}
 use mathlib.Core.Bool.{Bool, true, false, _&&_, cond}
 use mathlib.Core.List.{List, [], _∷_, _++_}
 use lib.Dec.{eqb}
-use Rattle.rules.specs.Writing.{inTurn}
+use Rattle.diskette.specs.Writing.{inTurn}
 
 abbrev pub tab : ℕ
 tab = 0x09

@@ -3,9 +3,9 @@ use Prim.Native.Nat.{ℕ}
 use mathlib.Core.List.{List, [], _∷_, _++_}
 use mathlib.Core.Option.{Option, none, some}
 use Rattle.form.specs.Kind.{numeral}
-use Rattle.rules.specs.Signs.{ascii}
-use Rattle.rules.specs.Calendar.{Day, toDDMMYY, toDDMMYYYY}
-use Rattle.rules.specs.Values.{Header, Part, Payment, Document}
+use Rattle.document.specs.Signs.{ascii}
+use Rattle.document.specs.Calendar.{Day, toDDMMYY, toDDMMYYYY}
+use Rattle.document.specs.Values.{Header, Part, Payment, Document}
 use Rattle.listing.specs.Lines.{line, trim}
 
 -- an absent day of execution is empty
@@ -17,8 +17,8 @@ abbrev pub headerFields : Header → List (List ℕ)
 headerFields h =
     h .fileKind  -- A3
     ∷ numeral 8 (h .bankCode)  -- A4
-    ∷ numeral 8 (h .senderBank)  -- A5
-    ∷ trim (h .sender)  -- A6
+    ∷ numeral 8 (h .sendingBank)  -- A5
+    ∷ trim (h .fileSender)  -- A6
     ∷ numeral 6 (toDDMMYY (h .made))  -- A7
     ∷ numeral 10 (h .account)  -- A9
     ∷ numeral 10 (h .reference)  -- A10

@@ -1,14 +1,15 @@
 -- The records that lines stand for: which bytes of a record are a field of its line, and which it has of its own.
-use Prim.Native.Nat.{ℕ, zero, suc, _+_, _-_, _/_, min}
+use Prim.Native.Nat.{ℕ, zero, suc, _+_, _-_, _*_, _/_, min}
 use mathlib.Core.Bool.{Bool, true, false, _&&_, _||_, not, cond}
 use mathlib.Core.List.{List, [], _∷_, _++_}
 use lib.ListN.{length, take, drop}
 use lib.Dec.{leb, eqb}
 use Rattle.form.specs.Kind.{Kind, fixed, digits, maybe, text, choice, width, numeral, blanks}
-use Rattle.rules.specs.Signs.{ascii, zeros}
-use Rattle.rules.specs.Rules.{fileKinds}
-use Rattle.rules.specs.Writing.{toSectionEnd, toNextPart, lengthOf}
-use Rattle.rules.specs.Fields.{text27}
+use Rattle.document.specs.Signs.{ascii, zeros}
+use Rattle.document.specs.Rules.{fileKinds}
+use Rattle.document.specs.Marks.{mostParts}
+use Rattle.diskette.specs.Writing.{toSectionEnd, toNextPart, lengthOf}
+use Rattle.diskette.specs.Fields.{text27}
 use Rattle.listing.specs.Lines.{trim, endsInBlank}
 
 pub data Piece : Type 0 where
@@ -68,9 +69,27 @@ recordC k =
     ∷ own (numeral 2 k)  -- C18
     ∷ recordParts 0 k
 
--- how many parts a C line of so many fields tells, its letter among them: 13 + 2 k fields, k at most 15
+-- ---- how many fields lines have behind their letter
+
+-- the line of A
+abbrev pub fieldsOfHeaderLine : ℕ
+fieldsOfHeaderLine = 8
+
+-- of full width in the line of a payment: its numbers
+abbrev pub numbersOfPaymentLine : ℕ
+numbersOfPaymentLine = 9
+
+-- in the line of every payment
+abbrev pub fieldsOfPaymentLine : ℕ
+fieldsOfPaymentLine = 12
+
+-- in the line of a payment with k parts: mark and text of each
+abbrev pub fieldsWith : ℕ → ℕ
+fieldsWith k = fieldsOfPaymentLine + 2 * k
+
+-- how many parts a C line of so many fields tells, its letter among them: 13 + 2 k fields
 abbrev pub partsOf : ℕ → ℕ
-partsOf fields = min 15 ((fields - 13) / 2)
+partsOf fields = min mostParts ((fields - suc fieldsOfPaymentLine) / 2)
 
 -- ---- the record that a line stands for
 

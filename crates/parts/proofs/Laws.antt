@@ -15,9 +15,10 @@ use Rattle.form.specs.Form.{Rule, Form, ret, get, any, _>>=_, _>>_}
 use Rattle.form.specs.Reader.{Look}
 use Rattle.form.specs.Place.{lookAt, fieldAt, readAt}
 use Rattle.form.proofs.BoolLaws.{T-of, or-cases}
-use Rattle.rules.specs.Values.{Part}
-use Rattle.rules.specs.Writing.{section, toSectionEnd, toNextPart}
-use Rattle.rules.specs.Fields.{Name, mark, words, text27, roomAfter, markOk, markRules, closingBlanks, parts}
+use Rattle.document.specs.Values.{Part}
+use Rattle.diskette.specs.Writing.{section, toSectionEnd, toNextPart}
+use Rattle.document.specs.Marks.{roomAfter, markOk}
+use Rattle.diskette.specs.Fields.{Name, mark, words, text27, markRules, closingBlanks, parts}
 use Rattle.fields.specs.declared.Refusal.{Refusal}
 use Rattle.fields.specs.declared.Passed.{Passed}
 use Rattle.fields.specs.declared.Passed.the-variants as passed

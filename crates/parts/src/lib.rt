@@ -4,12 +4,31 @@ ghost use Prim.Native.Nat.{ℕ};
 ghost use lib.ListN.{take, drop};
 ghost use Rattle.form.specs.Kind.{digits};
 ghost use Rattle.form.specs.Place.{lookAt, fieldAt, readAt};
-ghost use Rattle.rules.specs.Writing.{section, toSectionEnd, toNextPart};
-ghost use Rattle.rules.specs.Fields.{text27, roomAfter, markOk, markRules, closingBlanks, parts};
+ghost use Rattle.diskette.specs.Writing.{section, toSectionEnd, toNextPart};
+ghost use Rattle.document.specs.Marks.{roomAfter, markOk};
+ghost use Rattle.diskette.specs.Fields.{text27, markRules, closingBlanks, parts};
+ghost use Rattle.layout.specs.Steps.{partsAt};
 ghost use Rattle.fields.specs.Answers.{ofField, ofRead, passings, numbers};
 use fields::Number;
 use fields::Passed;
-use fields::numbers;
+use fields::refusals;
+use layout::at;
+use layout::length;
+use layout::width;
+
+// The layout in the numbers in which parts are counted: the most of them, the bytes of the second section behind C18, of a part, of a section.
+pub const MOST_PARTS: u64 = length::MOST_PARTS as u64;
+
+const BEHIND_C18: u64 = (length::SHORTEST_C - at::PARTS) as u64;
+
+const PART: u64 = width::PART as u64;
+
+const SECTION: u64 = length::SECTION as u64;
+
+// The blanks behind the last part that a section takes: two in the second, four in each later one.
+const BEHIND_TWO: usize = length::SHORTEST_C - at::PARTS - 2 * width::PART;
+
+const BEHIND_FOUR: usize = length::SECTION - 4 * width::PART;
 
 // How many parts may still follow a part of this mark, where room parts could follow the one before it.
 pub fn room_after(mark: u64, room: u64) -> u64
@@ -48,12 +67,12 @@ fn to_section_end(i: u64) -> usize
     ensures { λ r. ⌜ r ≡ toSectionEnd i ⌝ }
 {
     if i <= 2 {
-        return (69 - 29 * i) as usize;
+        return (BEHIND_C18 - PART * i) as usize;
     }
-    (128 - 29 * ((i - 3) % 4 + 1)) as usize
+    (SECTION - PART * ((i - 3) % 4 + 1)) as usize
 }
 
-// The bytes of the part at p: 29, or as many as the file still has.
+// The bytes of the part at p, or as many as the file still has.
 fn part_at(s: &[u8], p: usize) -> &[u8]
     ensures { λ r. ⌜ now r ≡ take 29 (drop p (now (s .entry))) ⌝ }
 {
@@ -61,10 +80,10 @@ fn part_at(s: &[u8], p: usize) -> &[u8]
     if n <= p {
         return &s[n..];
     }
-    if n - p <= 29 {
+    if n - p <= width::PART {
         return &s[p..];
     }
-    let end = p + 29;
+    let end = p + width::PART;
     &s[p..end]
 }
 
@@ -72,15 +91,15 @@ fn part_at(s: &[u8], p: usize) -> &[u8]
 pub fn mark_in(part: &[u8], room: u64, left: u64) -> Number
     ensures { λ r. ⌜ r ≡ ofField numbers 0 2 (fieldAt (digits 2) (markRules room left) (now (part .entry)) 0) ⌝ }
 {
-    let read = fields::number_at(part, 0, 2);
+    let read = fields::number_at(part, 0, width::MARK);
     let Number::Is(mark, q) = read else {
         return Number::Refused(read.why());
     };
     if !mark_ok(room, mark) {
-        return Number::Refused(fields::refuse(numbers::NO_MARK, 0));
+        return Number::Refused(fields::refuse(refusals::NO_MARK, 0));
     }
     if left > room_after(mark, room) {
-        return Number::Refused(fields::refuse(numbers::NO_MARK, 0));
+        return Number::Refused(fields::refuse(refusals::NO_MARK, 0));
     }
     Number::Is(mark, q)
 }
@@ -89,18 +108,18 @@ pub fn mark_in(part: &[u8], room: u64, left: u64) -> Number
 pub fn words_in(part: &[u8]) -> Passed
     ensures { λ r. ⌜ r ≡ ofField passings 2 29 (lookAt text27 (now (part .entry)) 2) ⌝ }
 {
-    fields::text_at(part, 2)
+    fields::text_at(part, width::MARK)
 }
 
-// The blanks behind part i, before a next one: 11 behind the second part, 12 behind the others that fill their section, else none.
+// The blanks behind part i, before a next one: only behind a part that fills its section.
 fn closing_before(s: &[u8], p: usize, i: u64) -> Passed
     ensures { λ r. ⌜ r ≡ ofRead passings (readAt (closingBlanks (section i) (toNextPart i)) (now (s .entry)) p) ⌝ }
 {
     if i == 2 {
-        return fields::blanks_at(s, p, 11);
+        return fields::blanks_at(s, p, BEHIND_TWO);
     }
     if (i == 6) | ((i == 10) | (i == 14)) {
-        return fields::blanks_at(s, p, 12);
+        return fields::blanks_at(s, p, BEHIND_FOUR);
     }
     Passed::To(p)
 }
@@ -112,6 +131,20 @@ fn closing_behind(s: &[u8], p: usize, i: u64) -> Passed
     fields::blanks_at(s, p, to_section_end(i))
 }
 
+// How many parts the payment at p has, as its C18 tells; 0 where the file ends before that, or no digits stand there.
+pub fn count_at(s: &[u8], p: usize) -> usize
+    ensures { λ r. ⌜ r ≡ partsAt (now (s .entry)) p ⌝ }
+{
+    if !fields::whole(s.len(), p, at::PARTS) {
+        return 0;
+    }
+    let a = fields::number_at(s, p + at::C18, width::C18);
+    let Number::Is(k, _) = a else {
+        return 0;
+    };
+    k as usize
+}
+
 // The k parts of a payment from at on, with the blanks that close its sections.
 pub fn read_parts(s: &[u8], at: usize, k: u64) -> Passed
     ensures { λ r. ⌜ r ≡ ofRead passings (readAt (parts k 0 15) (now (s .entry)) at) ⌝ }
@@ -119,7 +152,7 @@ pub fn read_parts(s: &[u8], at: usize, k: u64) -> Passed
     let mut p = at;
     let mut left = k;
     let mut i: u64 = 0;
-    let mut room: u64 = 15;
+    let mut room: u64 = MOST_PARTS;
     while left > 0 {
         let closed = closing_before(s, p, i);
         let Passed::To(start) = closed else {
@@ -131,12 +164,12 @@ pub fn read_parts(s: &[u8], at: usize, k: u64) -> Passed
         let Number::Is(mark, _) = m else {
             return Passed::Refused(fields::refuse(m.why().number, start));
         };
-        let text = start + 2;
+        let text = start + width::MARK;
         let w = words_in(part);
         let Passed::To(_) = w else {
             return Passed::Refused(fields::refuse(w.why().number, text));
         };
-        p = text + 27;
+        p = text + width::TEXT;
         left = more;
         i += 1;
         room = room_after(mark, room);

@@ -3,8 +3,8 @@ use Prim.Native.Nat.{ℕ}
 use mathlib.Core.Path.{_≡_, refl, ap, _∙_}
 use Rattle.form.specs.Form.{Form, ret, _>>=_}
 use Rattle.form.specs.Place.{Read, done}
-use Rattle.rules.specs.Values.{Payment}
-use Rattle.rules.specs.Fields.{Name, parts}
+use Rattle.document.specs.Values.{Payment}
+use Rattle.diskette.specs.Fields.{Name, parts}
 use Rattle.fields.specs.Answers.{ofRead}
 use Rattle.fields.proofs.WalkLaws.{Told, reads}
 use Rattle.fields.proofs.AnswerLaws.{zero-one}
@@ -12,7 +12,7 @@ use Rattle.sums.specs.declared.AccountSum.{AccountSum}
 use Rattle.sums.specs.declared.BankCodeSum.{BankCodeSum}
 use Rattle.sums.specs.declared.CentSum.{CentSum}
 use Rattle.sums.specs.declared.Sums.{Sums}
-use Rattle.sections.specs.Sections.{Receiver, Amount, amount, Names, names, partCount, joined}
+use Rattle.payment_fields.specs.Stretches.{Receiver, Amount, amount, Names, names, partCount, joined}
 use Rattle.payment.specs.declared.PaymentRead.{PaymentRead}
 use Rattle.payment.specs.declared.PaymentRead.the-variants as payments
 use Rattle.payment.specs.Adding.{withPayment, paymentsOn, paymentWhy}

@@ -1,6 +1,6 @@
 -- What reading a payment answers: the three sums, each with its field of the payment.
 use Prim.Native.Nat.{_+_}
-use Rattle.rules.specs.Values.{Payment}
+use Rattle.document.specs.Values.{Payment}
 use Rattle.fields.specs.declared.Refusal.{Refusal}
 use Rattle.fields.specs.Answers.{refusalOf, Telling}
 use Rattle.sums.specs.declared.Sums.{Sums}

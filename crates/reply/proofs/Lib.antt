@@ -1,4 +1,4 @@
 pub mod DecimalLaws
 pub mod LineLaws
 pub mod ReplyLaws
-pub mod Answers
+pub mod Promises

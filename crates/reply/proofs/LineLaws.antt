@@ -8,10 +8,10 @@ use lib.ListN.{length, set, length-append}
 use borrow.Author.Tests.{le-leb, lt-leb}
 use Rattle.form.specs.Kind.{numeral}
 use Rattle.form.proofs.KindLaws.{numeral-length}
-use Rattle.rules.specs.Answer.{filled}
+use Rattle.verdict.specs.Lent.{filled}
 use Rattle.listing.specs.Lines.{tab, lineEnd}
-use Rattle.pen.specs.Writing.{over, overIfRoom}
-use Rattle.pen.proofs.OverLaws.{over-room, over-length, over-first, over-next, over-more}
+use Rattle.output.specs.Writing.{over, overIfRoom}
+use Rattle.output.proofs.OverLaws.{over-room, over-length, over-first, over-next, over-more}
 use Rattle.reply.specs.Reply.{digitsWithin, decimal, refusalLine, fitting}
 use Rattle.reply.proofs.DecimalLaws.{no-more, decimal-digits}
 

@@ -1,7 +1,7 @@
 -- Lines of refusals, byte for byte.
 use mathlib.Core.Path.{_≡_, refl}
 use Rattle.form.specs.Kind.{numeral}
-use Rattle.rules.specs.Signs.{ascii}
+use Rattle.document.specs.Signs.{ascii}
 use Rattle.reply.specs.Reply.{digitsWithin, decimal, refusalLine}
 
 -- 0 has a digit too

@@ -5,7 +5,8 @@ use mathlib.Core.List.{List, [], _∷_, _++_}
 use lib.ListN.{length}
 use lib.Dec.{leb, ltb}
 use Rattle.form.specs.Kind.{numeral}
-use Rattle.rules.specs.Answer.{answer}
+use Rattle.verdict.specs.Verdicts.{refusing}
+use Rattle.diskette.specs.Answer.{answer}
 use Rattle.listing.specs.Lines.{tab, lineEnd}
 use Rattle.listing.specs.Composing.{compose}
 use Rattle.listing.specs.Endings.{Ending, writes, refuses, listed, composed, within}
@@ -24,11 +25,11 @@ refusalLine number place = decimal number ++ (tab ∷ (decimal place ++ (lineEnd
 
 abbrev pub printed : Ending → List ℕ
 printed (writes bytes) = bytes
-printed (refuses number place) = refusalLine number place
+printed (refuses v) = refusalLine (v .number) (v .place)
 
 -- the programs take at most 32,768 bytes; that comes before all else
 unfoldable pub limited : List ℕ → Ending → Ending
-limited input end = cond (leb (length input) 32768) end (refuses 20 32768)
+limited input end = cond (leb (length input) 32768) end (refuses (refusing 20 32768))
 
 -- where there is no room for all of it, nothing
 unfoldable pub fitting : ℕ → List ℕ → List ℕ

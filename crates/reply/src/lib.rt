@@ -1,7 +1,7 @@
 // What the programs print, made in a lent output: what the call has written there, or one line with the number and the place of the refusal.
 ghost use mathlib.Core.Path.{_≡_};
 ghost use lib.ListN.{length};
-ghost use Rattle.rules.specs.Answer.{filled};
+ghost use Rattle.verdict.specs.Lent.{filled};
 ghost use Rattle.reply.specs.Reply.{digitsWithin, refusalLine, fitting, listReply, makeReply};
 
 // The programs take at most so many bytes.
@@ -34,10 +34,10 @@ fn refusal_line(number: u8, place: usize, out: &mut [u8]) -> usize
     if out.len() < length {
         return 0;
     }
-    pen::put_number(out, 0, number as u64, first);
-    out[first] = pen::TAB;
-    pen::put_number(out, first + 1, place as u64, second);
-    out[length - 1] = pen::LINE_END;
+    output::put_number(out, 0, number as u64, first);
+    out[first] = layout::line::TAB;
+    output::put_number(out, first + 1, place as u64, second);
+    out[length - 1] = layout::line::END;
     length
 }
 
@@ -50,8 +50,8 @@ pub fn list(s: &[u8], out: &mut [u8]) -> usize
         return refusal_line(TOO_LONG, LONGEST, out);
     }
     let listed = lister::list(s, out);
-    if listed.number != 0 {
-        return refusal_line(listed.number, listed.place, out);
+    if listed.verdict.number != 0 {
+        return refusal_line(listed.verdict.number, listed.verdict.place, out);
     }
     listed.length
 }
@@ -65,8 +65,8 @@ pub fn make(l: &[u8], out: &mut [u8]) -> usize
         return refusal_line(TOO_LONG, LONGEST, out);
     }
     let made = composer::compose(l, out);
-    if made.number != 0 {
-        return refusal_line(made.number, made.place, out);
+    if made.verdict.number != 0 {
+        return refusal_line(made.verdict.number, made.verdict.place, out);
     }
     made.length
 }

@@ -1,8 +1,6 @@
 // The three control totals: account numbers, bank codes and cents never meet in one addition.
 ghost use mathlib.Core.Path.{_≡_};
-ghost use Rattle.sums.specs.Sums.{accountsAdded, accountsWhy, bankCodesAdded, bankCodesWhy, centsAdded, centsWhy};
-use fields::Refusal;
-use fields::numbers;
+ghost use Rattle.sums.specs.Sums.{accountsAdded, bankCodesAdded, centsAdded};
 
 // 17 digits, and 13.
 const MOST_OF_17: u64 = 99_999_999_999_999_999;
@@ -27,99 +25,66 @@ pub const NO_SUMS: Sums = Sums {
     cents: CentSum(0),
 };
 
-// The total with one number more, and the place behind that number.
-pub enum AccountsRead {
-    Refused(Refusal),
-    Is(AccountSum, usize),
+// The total with one number more, or it has too many digits.
+pub enum AccountsAdded {
+    Over,
+    Within(AccountSum),
 }
 
-pub enum BankCodesRead {
-    Refused(Refusal),
-    Is(BankCodeSum, usize),
+pub enum BankCodesAdded {
+    Over,
+    Within(BankCodeSum),
 }
 
-pub enum CentsRead {
-    Refused(Refusal),
-    Is(CentSum, usize),
+pub enum CentsAdded {
+    Over,
+    Within(CentSum),
 }
 
 impl AccountSum {
-    // With the account number v, which stands at p; q is the place behind it.
-    pub fn add(self, v: u64, p: usize, q: usize) -> AccountsRead
-        ensures { λ r. ⌜ r ≡ accountsAdded (self .0) v p q ⌝ }
+    // With the account number v.
+    pub fn add(self, v: u64) -> AccountsAdded
+        ensures { λ r. ⌜ r ≡ accountsAdded (self .0) v ⌝ }
     {
         let sum = self.0;
         if v > MOST_OF_17 {
-            return AccountsRead::Refused(fields::refuse(numbers::ACCOUNTS_OVER, p));
+            return AccountsAdded::Over;
         }
         if sum > MOST_OF_17 - v {
-            return AccountsRead::Refused(fields::refuse(numbers::ACCOUNTS_OVER, p));
+            return AccountsAdded::Over;
         }
-        AccountsRead::Is(AccountSum(sum + v), q)
+        AccountsAdded::Within(AccountSum(sum + v))
     }
 }
 
 impl BankCodeSum {
-    // With the bank code v, which stands at p; q is the place behind it.
-    pub fn add(self, v: u64, p: usize, q: usize) -> BankCodesRead
-        ensures { λ r. ⌜ r ≡ bankCodesAdded (self .0) v p q ⌝ }
+    // With the bank code v.
+    pub fn add(self, v: u64) -> BankCodesAdded
+        ensures { λ r. ⌜ r ≡ bankCodesAdded (self .0) v ⌝ }
     {
         let sum = self.0;
         if v > MOST_OF_17 {
-            return BankCodesRead::Refused(fields::refuse(numbers::BANK_CODES_OVER, p));
+            return BankCodesAdded::Over;
         }
         if sum > MOST_OF_17 - v {
-            return BankCodesRead::Refused(fields::refuse(numbers::BANK_CODES_OVER, p));
+            return BankCodesAdded::Over;
         }
-        BankCodesRead::Is(BankCodeSum(sum + v), q)
+        BankCodesAdded::Within(BankCodeSum(sum + v))
     }
 }
 
 impl CentSum {
-    // With the cents v, which stand at p; q is the place behind them.
-    pub fn add(self, v: u64, p: usize, q: usize) -> CentsRead
-        ensures { λ r. ⌜ r ≡ centsAdded (self .0) v p q ⌝ }
+    // With the cents v.
+    pub fn add(self, v: u64) -> CentsAdded
+        ensures { λ r. ⌜ r ≡ centsAdded (self .0) v ⌝ }
     {
         let sum = self.0;
         if v > MOST_CENTS {
-            return CentsRead::Refused(fields::refuse(numbers::CENTS_OVER, p));
+            return CentsAdded::Over;
         }
         if sum > MOST_CENTS - v {
-            return CentsRead::Refused(fields::refuse(numbers::CENTS_OVER, p));
+            return CentsAdded::Over;
         }
-        CentsRead::Is(CentSum(sum + v), q)
-    }
-}
-
-impl AccountsRead {
-    pub fn why(self) -> Refusal
-        ensures { λ r. ⌜ r ≡ accountsWhy self ⌝ }
-    {
-        match self {
-            AccountsRead::Is(_, _) => fields::NO_REFUSAL,
-            AccountsRead::Refused(r) => r,
-        }
-    }
-}
-
-impl BankCodesRead {
-    pub fn why(self) -> Refusal
-        ensures { λ r. ⌜ r ≡ bankCodesWhy self ⌝ }
-    {
-        match self {
-            BankCodesRead::Is(_, _) => fields::NO_REFUSAL,
-            BankCodesRead::Refused(r) => r,
-        }
-    }
-}
-
-impl CentsRead {
-    pub fn why(self) -> Refusal
-        ensures { λ r. ⌜ r ≡ centsWhy self ⌝ }
-    {
-        match self {
-            CentsRead::Is(_, _) => fields::NO_REFUSAL,
-            CentsRead::Refused(r) => r,
-        }
+        CentsAdded::Within(CentSum(sum + v))
     }
 }

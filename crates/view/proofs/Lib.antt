@@ -2,4 +2,4 @@ pub mod Walking
 pub mod Calls
 pub mod MakeAndHand
 pub mod OneAnswer
-pub mod Answers
+pub mod Promises

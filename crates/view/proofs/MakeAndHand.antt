@@ -1,8 +1,9 @@
--- What `text_of` and `refusal_of` share, which make a view and hand a text out of it: a text of a view of the file is a text of the file itself, and the two calls.
+-- What `text_of` and `verdict_of` share, which make a view and hand a text out of it: a text of a view of the file is a text of the file itself, and the two calls.
 --     text-spot        the spot of the text in the view's bytes is `textAt`
---     text-law, refusal-law          the text and the refusal, from what `make` and `hand` promise
+--     text-law, verdict-law          the text and the verdict, from what `make` and `hand` promise
 --     params-vals, params-tell       the machine values of their parameters
 --     made-typed, handed-typed       the answers of the two, held in a local
+--     made-verdict, handed-verdict   the verdicts in them
 --     to-make, make-asked            the call of `make`: what its contract binds, and that whoever has the file has what it asks
 --     to-hand, hand-asked            the call of `hand` on the view of an answer of `make`
 --     text-of          out of an answer of `hand`: what its text owns
@@ -34,13 +35,13 @@ use denote.Ref.{RefT, NamedLft, now}
 use denote.Slice.{ShrSlice, slice-vals, shr-slice-tells, shr-slice-copy}
 use denote.Enum.Laws as EL
 use denote.Struct.Laws as LL
-use Rattle.spots.specs.Spots.{findAt, locateAt}
-use Rattle.spots.specs.declared.Wanted.{Wanted}
-use Rattle.spots.specs.declared.Spot.{Spot}
-use Rattle.spots.proofs.Wanted as E
-use Rattle.spots.proofs.Wanted.Laws as E′
-use Rattle.spots.proofs.SpotLaws.{locate-within}
-use Rattle.view.specs.Views.{Stretch, IsMade, IsHanded, IsText, bytesOf, textAt, firstOf, refusalFor}
+use Rattle.finder.specs.Spots.{findAt, locateAt}
+use Rattle.finder.specs.declared.Wanted.{Wanted}
+use Rattle.finder.specs.declared.Spot.{Spot}
+use Rattle.finder.proofs.Wanted as E
+use Rattle.finder.proofs.Wanted.Laws as E′
+use Rattle.finder.proofs.SpotLaws.{locate-within}
+use Rattle.view.specs.Views.{Stretch, IsMade, IsHanded, IsText, viewed, textAt, firstOf, verdictFor}
 use Rattle.view.specs.declared.Made.{Made}
 use Rattle.view.specs.declared.Handed.{Handed}
 use Rattle.view.proofs.Made as N
@@ -48,16 +49,16 @@ use Rattle.view.proofs.Made.Laws as N′
 use Rattle.view.proofs.Handed as H′
 use Rattle.view.proofs.Handed.Laws as H″
 use Rattle.view.proofs.Walking.{field-of, Promise, Asked, lent}
-use Rattle.view.proofs.Calls.{α, mach, slice, Own, Text, spotOf}
+use Rattle.view.proofs.Calls.{α, mach, slice, Own, Text, spotOf, IsVerdict}
 use Rattle.view.proofs.make as make
 use Rattle.view.proofs.hand as hand
 
 -- ---- what is promised
-bytes-are : (s x : RefT (List ℕ)) (n : ℕ) → Stretch s 0 (findAt (now s) n .to) x → now x ≡ bytesOf (now s) n
+bytes-are : (s x : RefT (List ℕ)) (n : ℕ) → Stretch s 0 (findAt (now s) n .to) x → now x ≡ viewed (now s) n
 bytes-are s x n e = e .0 ∙ ap (λ (k : ℕ). take k (now s)) (sub-zero (findAt (now s) n .to))
 
 text-spot : (s : RefT (List ℕ)) (n : ℕ) (w : Wanted) (m : Made) → IsMade s (findAt (now s) n) m → spotOf (m .view) w ≡ textAt (now s) n w
-text-spot s n w m e = ap (λ (b : List ℕ). locateAt b (m .view .start) w) (bytes-are s (m .view .file) n (e .0)) ∙ ap (λ (k : ℕ). locateAt (bytesOf (now s) n) k w) (e .1)
+text-spot s n w m e = ap (λ (b : List ℕ). locateAt b (m .view .start) w) (bytes-are s (m .view .file) n (e .0)) ∙ ap (λ (k : ℕ). locateAt (viewed (now s) n) k w) (e .1)
 
 -- a stretch of the first m bytes is one of all of them
 cut-inside : (k a m : ℕ) (f : List ℕ) → a + k ≤ m → take k (dropL a (take m f)) ≡ take k (dropL a f)
@@ -66,10 +67,10 @@ cut-inside k (suc a) zero f h = absurd (omega arith)
 cut-inside k (suc a) (suc m) [] h = refl
 cut-inside k (suc a) (suc m) (x ∷ f) h = cut-inside k a m f (omega arith)
 
-text-cut : (f : List ℕ) (n : ℕ) (w : Wanted) → let p = textAt f n w in take (p .to - p .from) (dropL (p .from) (bytesOf f n)) ≡ take (p .to - p .from) (dropL (p .from) f)
+text-cut : (f : List ℕ) (n : ℕ) (w : Wanted) → let p = textAt f n w in take (p .to - p .from) (dropL (p .from) (viewed f n)) ≡ take (p .to - p .from) (dropL (p .from) f)
 text-cut f n w =
     let p = textAt f n w in
-    let inside = locate-within (bytesOf f n) (findAt f n .from) w in
+    let inside = locate-within (viewed f n) (findAt f n .from) w in
     cut-inside (p .to - p .from) (p .from) (findAt f n .to) f (omega (arith, inside .0, inside .1, length-take (findAt f n .to) f))
 
 pub text-law : (s : RefT (List ℕ)) (n : ℕ) (w : Wanted) (m : Made) (h : Handed) → IsMade s (findAt (now s) n) m → IsHanded (m .view .file) (spotOf (m .view) w) h → IsText s n w (h .text)
@@ -80,10 +81,10 @@ text-law s n w m h e e′ =
       omega (arith, e′ .0 .2, e .0 .2, ap (λ (z : Spot). z .from) p),
     )
 
-pub refusal-law : (s : RefT (List ℕ)) (n : ℕ) (w : Wanted) (m : Made) (h : Handed) → IsMade s (findAt (now s) n) m → IsHanded (m .view .file) (spotOf (m .view) w) h → firstOf (m .number) (m .place) (h .number) (h .place) ≡ refusalFor (now s) n w
-refusal-law s n w m h e e′ =
+pub verdict-law : (s : RefT (List ℕ)) (n : ℕ) (w : Wanted) (m : Made) (h : Handed) → IsMade s (findAt (now s) n) m → IsHanded (m .view .file) (spotOf (m .view) w) h → firstOf (m .verdict) (h .verdict) ≡ verdictFor (now s) n w
+verdict-law s n w m h e e′ =
     let p = text-spot s n w m e in
-    λ j. firstOf (e .2 j) (e .3 j) ((e′ .1 ∙ ap (λ (z : Spot). z .number) p) j) ((e′ .2 ∙ ap (λ (z : Spot). z .place) p) j)
+    λ j. firstOf (e .2 j) ((e′ .1 ∙ ap (λ (z : Spot). z .verdict) p) j)
 
 -- ---- the parameters of the two: file, number of the payment, and which text; and their machine values
 abbrev pub Params : Lft → List RattleType
@@ -113,11 +114,17 @@ module _ {M : Type 1} (𝓤 : URA M) (H : Heap 𝓤) (A : Atoms 𝓤) (W : Given
   pub handed-typed : (h : Handed) → Is (H′.the-row (α κ)) h (H″.lowered h ∷ []) → Holds (hasTy (H″.mir erased) (H″.lowered h)) × WT (H″.lowered h)
   handed-typed h is = LL.lawful (H′.the-type (αᵉ κ)) (H″.the-laws (αᵉ κ)) 𝓤 H A W .typed h (H″.lowered h ∷ []) is .0
 
+  pub made-verdict : (m : Made) → Is (N.the-row (α κ)) m (N′.lowered m ∷ []) → IsVerdict (m .verdict)
+  made-verdict m is = LL.owed (N.the-type (α κ)) (N′.the-laws (α κ)) m _ is .1 .0
+
+  pub handed-verdict : (h : Handed) → Is (H′.the-row (α κ)) h (H″.lowered h ∷ []) → IsVerdict (h .verdict)
+  handed-verdict h is = LL.owed (H′.the-type (α κ)) (H″.the-laws (α κ)) h _ is .1 .0
+
   view-of : (m : Made) → ent 𝓤 (sem 𝓤 H A (OwnMade κ m)) (sep 𝓤 (sem 𝓤 H A (Own κ (m .view))) (sem 𝓤 H A (OwnMade κ m)))
-  view-of m = field-of 𝓤 H A W (N.the-type (α κ)) (N′.the-laws (α κ)) (N′.the-copy (α κ)) 0 (m .view, (m .number, (m .place, tt))) (N′.lowered m)
+  view-of m = field-of 𝓤 H A W (N.the-type (α κ)) (N′.the-laws (α κ)) (N′.the-copy (α κ)) 0 (m .view, (m .verdict, tt)) (N′.lowered m)
 
   pub text-of : (h : Handed) → ent 𝓤 (sem 𝓤 H A (OwnHanded κ h)) (sem 𝓤 H A (Text κ (h .text)))
-  text-of h = via 𝓤 _ (field-of 𝓤 H A W (H′.the-type (α κ)) (H″.the-laws (α κ)) (H″.the-copy (α κ)) 0 (h .text, (h .number, (h .place, tt))) (H″.lowered h)) (fst∗ 𝓤 (sem 𝓤 H A (Text κ (h .text))) (sem 𝓤 H A (OwnHanded κ h)))
+  text-of h = via 𝓤 _ (field-of 𝓤 H A W (H′.the-type (α κ)) (H″.the-laws (α κ)) (H″.the-copy (α κ)) 0 (h .text, (h .verdict, tt)) (H″.lowered h)) (fst∗ 𝓤 (sem 𝓤 H A (Text κ (h .text))) (sem 𝓤 H A (OwnHanded κ h)))
 
 -- ---- the calls
 module _ {M : Type 1} (𝓤 : URA M) (H : Heap 𝓤) (A : Atoms 𝓤) (W : Given 𝓤 H A) (mem : Memory → SProp 𝓤) (run : Routine → Fun 𝓤) (κ : Lft) (q : Share) where

@@ -1,19 +1,20 @@
 -- Each promise of the crate admits one answer. No promise fixes a reference's ghost name, which is no part of the machine value, so of `make`, `hand` and `text_of` what is one is the machine value: the pointer, the count and the numbers.
 --     one-made, one-handed, one-text      any two answers that keep the promise have the same machine value
---     one-refusal                         the promise of `refusal_of` is an equation: any two answers are the same
+--     one-verdict                         the promise of `verdict_of` is an equation: any two answers are the same
 -- Assumes nothing.
 use mathlib.Core.Path.{_≡_, sym, _∙_}
 use Prim.Native.Nat.{ℕ}
 use mathlib.Core.List.{List}
-use mir.Syntax.{w8, w64}
+use mir.Syntax.{w64}
 use mir.Val.{vint, vstruct, vcons, vnil}
 use lib.ListN.{length}
 use denote.Ref.{RefT, now}
 use denote.Slice.{sliceVal}
-use Rattle.fields.specs.declared.Refusal.{Refusal}
-use Rattle.spots.specs.declared.Wanted.{Wanted}
-use Rattle.spots.specs.declared.Spot.{Spot}
-use Rattle.view.specs.Views.{IsMade, IsHanded, IsText, refusalFor}
+use Rattle.verdict.specs.declared.Verdict.{Verdict}
+use Rattle.verdict.proofs.Verdict.Laws as D′
+use Rattle.finder.specs.declared.Wanted.{Wanted}
+use Rattle.finder.specs.declared.Spot.{Spot}
+use Rattle.view.specs.Views.{IsMade, IsHanded, IsText, verdictFor}
 use Rattle.view.specs.declared.Made.{Made}
 use Rattle.view.specs.declared.Handed.{Handed}
 use Rattle.view.proofs.Made.Laws as N′
@@ -25,13 +26,13 @@ one-slice x y e f = λ j. sliceVal ((e .1 ∙ sym (f .1)) j, (e .2 ∙ sym (f .2
 
 pub one-made : (s : RefT (List ℕ)) (p : Spot) (x y : Made) → IsMade s p x → IsMade s p y → N′.lowered x ≡ N′.lowered y
 one-made s p x y e f =
-    λ j. vstruct (vcons (vstruct (vcons (one-slice (x .view .file) (y .view .file) (e .0) (f .0) j) (vcons (vint w64 ((e .1 ∙ sym (f .1)) j)) vnil))) (vcons (vint w8 ((e .2 ∙ sym (f .2)) j)) (vcons (vint w64 ((e .3 ∙ sym (f .3)) j)) vnil)))
+    λ j. vstruct (vcons (vstruct (vcons (one-slice (x .view .file) (y .view .file) (e .0) (f .0) j) (vcons (vint w64 ((e .1 ∙ sym (f .1)) j)) vnil))) (vcons (D′.lowered ((e .2 ∙ sym (f .2)) j)) vnil))
 
 pub one-handed : (s : RefT (List ℕ)) (p : Spot) (x y : Handed) → IsHanded s p x → IsHanded s p y → H″.lowered x ≡ H″.lowered y
-one-handed s p x y e f = λ j. vstruct (vcons (one-slice (x .text) (y .text) (e .0) (f .0) j) (vcons (vint w8 ((e .1 ∙ sym (f .1)) j)) (vcons (vint w64 ((e .2 ∙ sym (f .2)) j)) vnil)))
+one-handed s p x y e f = λ j. vstruct (vcons (one-slice (x .text) (y .text) (e .0) (f .0) j) (vcons (D′.lowered ((e .1 ∙ sym (f .1)) j)) vnil))
 
 pub one-text : (s : RefT (List ℕ)) (n : ℕ) (w : Wanted) (x y : RefT (List ℕ)) → IsText s n w x → IsText s n w y → slice x ≡ slice y
 one-text s n w x y e f = one-slice x y e f
 
-pub one-refusal : (file : List ℕ) (n : ℕ) (w : Wanted) (x y : Refusal) → x ≡ refusalFor file n w → y ≡ refusalFor file n w → x ≡ y
-one-refusal file n w x y e f = e ∙ sym f
+pub one-verdict : (file : List ℕ) (n : ℕ) (w : Wanted) (x y : Verdict) → x ≡ verdictFor file n w → y ≡ verdictFor file n w → x ≡ y
+one-verdict file n w x y e f = e ∙ sym f

@@ -1,13 +1,13 @@
 // The view of one payment: it holds the file and where the payment begins, and hands out the payment's texts as stretches of the file itself.
-// What branches stands in `spots`, on plain parameters. The calls here make a view, take one or take one apart, and only go from a spot to a
+// What branches stands in `finder`, on plain parameters. The calls here make a view, take one or take one apart, and only go from a spot to a
 // stretch of the file.
 ghost use mathlib.Core.Path.{_≡_};
 ghost use Prim.Native.Nat.{_≤_};
 ghost use lib.ListN.{length};
-ghost use Rattle.spots.specs.Spots.{findAt, locateAt};
-ghost use Rattle.view.specs.Views.{Stretch, IsMade, IsHanded, IsText, firstOf, refusalFor};
-use fields::Refusal;
-use spots::Wanted;
+ghost use Rattle.finder.specs.Spots.{findAt, locateAt};
+ghost use Rattle.view.specs.Views.{Stretch, IsMade, IsHanded, IsText, firstOf, verdictFor};
+use finder::Wanted;
+use verdict::Verdict;
 
 // A payment: the file, and where the payment begins in it.
 pub struct View<'a> {
@@ -15,18 +15,16 @@ pub struct View<'a> {
     pub start: usize,
 }
 
-// What making gives back: the view, and number and place. With any number but 0 the view has no bytes, and start 0.
+// What making gives back: the view, and the verdict. A refused view has no bytes, and start 0.
 pub struct Made<'a> {
     pub view: View<'a>,
-    pub number: u8,
-    pub place: usize,
+    pub verdict: Verdict,
 }
 
-// What a hand-out gives back: the text, and number and place. With any number but 0 the text is empty.
+// What a hand-out gives back: the text, and the verdict. A refused text is empty.
 pub struct Handed<'a> {
     pub text: &'a [u8],
-    pub number: u8,
-    pub place: usize,
+    pub verdict: Verdict,
 }
 
 // A stretch of the file itself.
@@ -41,15 +39,14 @@ fn stretch(s: &[u8], from: usize, to: usize) -> &[u8]
 pub fn make<'a>(file: &'a [u8], n: usize) -> Made<'a>
     ensures { λ r. ⌜ IsMade (file .entry) (findAt (now (file .entry)) n) r ⌝ }
 {
-    let spot = spots::find(file, n);
+    let spot = finder::find(file, n);
     let bytes = stretch(file, 0, spot.to);
     Made {
         view: View {
             file: bytes,
             start: spot.from,
         },
-        number: spot.number,
-        place: spot.place,
+        verdict: spot.verdict,
     }
 }
 
@@ -57,12 +54,11 @@ pub fn make<'a>(file: &'a [u8], n: usize) -> Made<'a>
 pub fn hand<'a>(v: View<'a>, w: Wanted) -> Handed<'a>
     ensures { λ r. ⌜ IsHanded (v .entry .file) (locateAt (now (v .entry .file)) (v .entry .start) w) r ⌝ }
 {
-    let spot = spots::locate(v.file, v.start, w);
+    let spot = finder::locate(v.file, v.start, w);
     let text = stretch(v.file, spot.from, spot.to);
     Handed {
         text,
-        number: spot.number,
-        place: spot.place,
+        verdict: spot.verdict,
     }
 }
 
@@ -75,21 +71,21 @@ pub fn text_of<'a>(file: &'a [u8], n: usize, w: Wanted) -> &'a [u8]
     handed.text
 }
 
-// Why that text is refused, 0 at 0 where it is not.
-pub fn refusal_of(file: &[u8], n: usize, w: Wanted) -> Refusal
-    ensures { λ r. ⌜ r ≡ refusalFor (now (file .entry)) n w ⌝ }
+// The verdict on that text.
+pub fn verdict_of(file: &[u8], n: usize, w: Wanted) -> Verdict
+    ensures { λ r. ⌜ r ≡ verdictFor (now (file .entry)) n w ⌝ }
 {
     let made = make(file, n);
     let handed = hand(made.view, w);
-    first_of(made.number, made.place, handed.number, handed.place)
+    first_of(made.verdict, handed.verdict)
 }
 
 // The first refusal of two.
-fn first_of(number: u8, place: usize, number2: u8, place2: usize) -> Refusal
-    ensures { λ r. ⌜ r ≡ firstOf number place number2 place2 ⌝ }
+fn first_of(a: Verdict, b: Verdict) -> Verdict
+    ensures { λ r. ⌜ r ≡ firstOf a b ⌝ }
 {
-    if number == 0 {
-        return fields::refuse(number2, place2);
+    if a.number == 0 {
+        return b;
     }
-    fields::refuse(number, place)
+    a
 }

@@ -3,7 +3,7 @@
 use Prim.Native.Nat.{_+_, _*_, _≤_}
 use native.Mathlib.Omega.{arith}
 use borrow.Author.Needs.{needs}
-use Rattle.rules.specs.Calendar.{dayNumber}
+use Rattle.document.specs.Calendar.{dayNumber}
 use Rattle.calendar.proofs.Laws.{years-most, months-most}
 use Rattle.calendar.proofs.day_number.Statement.{statement}
 use Rattle.calendar.proofs.day_number.Tie as tie

@@ -2,7 +2,7 @@
 -- Assumes nothing.
 use native.Mathlib.Omega.{arith}
 use borrow.Author.Needs.{needs}
-use Rattle.rules.specs.Calendar.{inSpan}
+use Rattle.document.specs.Calendar.{inSpan}
 use Rattle.calendar.specs.Days.{dayOf}
 use Rattle.calendar.proofs.Laws.{number-most}
 use Rattle.calendar.proofs.in_span.Statement.{statement}

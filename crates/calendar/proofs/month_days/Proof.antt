@@ -3,7 +3,7 @@
 use mathlib.Core.Logic.{inl, inr, ⊎-elim}
 use borrow.Author.Needs.{needs}
 use borrow.Author.Tests.{ne-eqb}
-use Rattle.rules.specs.Calendar.{leapDay, monthDays}
+use Rattle.document.specs.Calendar.{leapDay, monthDays}
 use Rattle.calendar.proofs.month_days.Statement.{statement}
 use Rattle.calendar.proofs.month_days.Tie as tie
 

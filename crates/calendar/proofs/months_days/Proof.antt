@@ -5,8 +5,8 @@ use native.Mathlib.Omega.{arith}
 use native.Mathlib.Numerals.{add-one}
 use mathlib.Core.Path.{_≡_, refl}
 use borrow.Author.Needs.{needs}
-use Rattle.rules.specs.Calendar.{monthsDays}
-use Rattle.rules.proofs.CalendarLaws.{month-most}
+use Rattle.document.specs.Calendar.{monthsDays}
+use Rattle.document.proofs.CalendarLaws.{month-most}
 use Rattle.calendar.proofs.Laws.{months-most}
 use Rattle.calendar.proofs.months_days.Statement.{statement}
 use Rattle.calendar.proofs.months_days.Tie as tie

@@ -1,7 +1,7 @@
 -- calendar::of_ddmmyy meets its contract: its quotients and remainders are those of the rule.
 -- Assumes nothing.
 use borrow.Author.Needs.{needs}
-use Rattle.rules.specs.Calendar.{ofDDMMYY}
+use Rattle.document.specs.Calendar.{ofDDMMYY}
 use Rattle.calendar.proofs.of_ddmmyy.Statement.{statement}
 use Rattle.calendar.proofs.of_ddmmyy.Tie as tie
 

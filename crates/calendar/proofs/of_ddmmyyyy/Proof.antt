@@ -2,7 +2,7 @@
 -- Assumes nothing.
 use mathlib.Core.Path.{refl}
 use borrow.Author.Needs.{needs}
-use Rattle.rules.specs.Calendar.{ofDDMMYYYY}
+use Rattle.document.specs.Calendar.{ofDDMMYYYY}
 use Rattle.calendar.proofs.of_ddmmyyyy.Statement.{statement}
 use Rattle.calendar.proofs.of_ddmmyyyy.Tie as tie
 

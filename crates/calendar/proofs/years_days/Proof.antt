@@ -2,7 +2,7 @@
 -- Assumes nothing.
 use mathlib.Core.Path.{refl}
 use borrow.Author.Needs.{needs}
-use Rattle.rules.specs.Calendar.{yearsDays}
+use Rattle.document.specs.Calendar.{yearsDays}
 use Rattle.calendar.proofs.years_days.Statement.{statement}
 use Rattle.calendar.proofs.years_days.Tie as tie
 

@@ -1,121 +1,53 @@
--- checker::check meets its contract: a walk through A, then turn by turn through the payments, then E.
+-- checker::check meets its contract: one file from the first byte on, and nothing behind it.
 -- Assumes nothing.
-use Prim.Native.Nat.{_-_}
-use native.Mathlib.Omega.{arith}
 use mathlib.Core.Path.{_∙_}
 use borrow.Author.Needs.{needs}
-use Rattle.rules.specs.Rules.{mostPayments}
-use Rattle.fields.proofs.AnswerLaws.{number-is, numbers-told}
-use Rattle.fields.proofs.WalkLaws.{fails, start}
-use Rattle.checker.proofs.TurnLaws.{Turn, header-refuses, one-more, payment-refuses, turn-ends, turn-fails, turn-first, turn-more}
+use borrow.Author.Tests.{le-leb, lt-leb}
+use Rattle.checker.proofs.CheckLaws.{check-late, check-over, check-refused}
 use Rattle.checker.proofs.check.Statement.{statement}
 use Rattle.checker.proofs.check.Tie as tie
 
-abbrev Inv-loop : tie.InvT-loop
-Inv-loop s start kind p₀ count₀ sums₀ p count sums = Turn s kind count sums p
+file-at-requires : tie.Need-file-at-requires
+file-at-requires c κs = search needs
 
-abbrev μ-loop : tie.MeasureT-loop
-μ-loop s start kind p₀ count₀ sums₀ p count sums = mostPayments - count
-
-header-at-requires : tie.Need-header-at-requires Inv-loop μ-loop
-header-at-requires c κs = search needs
-
-enum-known-a : tie.Need-enum-known-a Inv-loop μ-loop
+enum-known-a : tie.Need-enum-known-a
 enum-known-a c = search needs
 
-enum-told : tie.Need-enum-told Inv-loop μ-loop
+enum-told : tie.Need-enum-told
 enum-told c = search needs
 
-why-requires : tie.Need-why-requires Inv-loop μ-loop
+why-requires : tie.Need-why-requires
 why-requires c κs = search needs
 
-refused-requires : tie.Need-refused-requires Inv-loop μ-loop
+refused-requires : tie.Need-refused-requires
 refused-requires c κs = search needs
 
-returns : tie.Need-returns Inv-loop μ-loop
-returns c = c .refused .ensures ∙ header-refuses _ (c .before .before .before .before .header-at .ensures) (c .before .before .enum-told .given .1) (c .before .why .ensures)
+returns : tie.Need-returns
+returns c = c .refused .ensures ∙ check-refused _ (c .before .before .before .before .file-at .ensures) (c .before .before .enum-told .given .1) (c .before .why .ensures)
 
-loop-holds : tie.Need-loop-holds Inv-loop μ-loop
-loop-holds c = turn-first _ (c .before .before .before .before .header-at .ensures) (c .before .before .a .given .1)
+refuse-requires : tie.Need-refuse-requires
+refuse-requires c κs = search needs
 
-length-at-requires : tie.Need-length-at-requires Inv-loop μ-loop
-length-at-requires c κs = search needs
-
-enum-known-first : tie.Need-enum-known-first Inv-loop μ-loop
-enum-known-first c = search needs
-
-enum-told-2 : tie.Need-enum-told-2 Inv-loop μ-loop
-enum-told-2 c = search needs
-
-why-requires-2 : tie.Need-why-requires-2 Inv-loop μ-loop
-why-requires-2 c κs = search needs
-
-refused-requires-2 : tie.Need-refused-requires-2 Inv-loop μ-loop
+refused-requires-2 : tie.Need-refused-requires-2
 refused-requires-2 c κs = search needs
 
-returns-2 : tie.Need-returns-2 Inv-loop μ-loop
-returns-2 c = c .refused2 .ensures ∙ turn-fails (c .before .before .before .before .before .loop .inv) (fails numbers-told _ _ _ (c .before .before .before .before .length-at .ensures) (c .before .before .enum-told2 .given .1) (c .before .why2 .ensures))
+returns-2 : tie.Need-returns-2
+returns-2 c = rw (c .refused2 .ensures, c .before .refuse .ensures) (check-late _ (c .before .before .before .before .before .before .file-at .ensures) (c .before .before .before .before .a .given .1) (lt-leb _ _ (c .before .before .if1 .taken)))
 
-ended-requires : tie.Need-ended-requires Inv-loop μ-loop
-ended-requires c κs = search needs
-
-returns-3 : tie.Need-returns-3 Inv-loop μ-loop
-returns-3 c = turn-ends (c .before .before .before .before .before .before .loop .inv) (number-is _ _ _ (c .before .before .before .before .before .length-at .ensures) (c .before .before .before .first .given .1)) (c .before .if1 .taken) (c .ended .ensures)
-
-payment-at-requires : tie.Need-payment-at-requires Inv-loop μ-loop
-payment-at-requires c κs = search needs
-
-enum-known-c : tie.Need-enum-known-c Inv-loop μ-loop
-enum-known-c c = search needs
-
-enum-told-3 : tie.Need-enum-told-3 Inv-loop μ-loop
-enum-told-3 c = search needs
-
-why-requires-3 : tie.Need-why-requires-3 Inv-loop μ-loop
-why-requires-3 c κs = search needs
-
-refused-requires-3 : tie.Need-refused-requires-3 Inv-loop μ-loop
-refused-requires-3 c κs = search needs
-
-returns-4 : tie.Need-returns-4 Inv-loop μ-loop
-returns-4 c = c .refused3 .ensures ∙ payment-refuses (c .before .before .before .before .before .before .before .before .before .before .loop .inv) (number-is _ _ _ (c .before .before .before .before .before .before .before .before .before .length-at .ensures) (c .before .before .before .before .before .before .before .first .given .1)) (c .before .before .before .before .before .if1 .left) (c .before .before .before .before .payment-at .ensures) (c .before .before .enum-told3 .given .1) (c .before .why3 .ensures)
-
-add-count : tie.Need-add-count Inv-loop μ-loop
-add-count c = let h = one-more (c .before .before .before .before .before .before .before .before .before .loop .inv) (number-is _ _ _ (c .before .before .before .before .before .before .before .before .length-at .ensures) (c .before .before .before .before .before .before .first .given .1)) (c .before .before .before .before .if1 .left) in omega arith
-
-loop-less : tie.Need-loop-less Inv-loop μ-loop
-loop-less c = let h = one-more (c .before .before .before .before .before .before .before .before .before .loop .inv) (number-is _ _ _ (c .before .before .before .before .before .before .before .before .length-at .ensures) (c .before .before .before .before .before .before .first .given .1)) (c .before .before .before .before .if1 .left) in omega arith
-
-loop-again : tie.Need-loop-again Inv-loop μ-loop
-loop-again c = turn-more (c .before .before .before .before .before .before .before .before .before .loop .inv) (number-is _ _ _ (c .before .before .before .before .before .before .before .before .length-at .ensures) (c .before .before .before .before .before .before .first .given .1)) (c .before .before .before .before .if1 .left) (c .before .before .before .payment-at .ensures) (c .before .c .given .1)
+returns-3 : tie.Need-returns-3
+returns-3 c = check-over _ (c .before .before .before .before .file-at .ensures) (c .before .before .a .given .1) (le-leb _ _ (c .if1 .left))
 
 pub check-spec : {M : Type 1} → statement M
 check-spec =
     tie.close
     (tie.spec
-    Inv-loop
-    μ-loop
-    header-at-requires
+    file-at-requires
     enum-known-a
     enum-told
     why-requires
     refused-requires
     returns
-    loop-holds
-    length-at-requires
-    enum-known-first
-    enum-told-2
-    why-requires-2
+    refuse-requires
     refused-requires-2
     returns-2
-    ended-requires
-    returns-3
-    payment-at-requires
-    enum-known-c
-    enum-told-3
-    why-requires-3
-    refused-requires-3
-    returns-4
-    add-count
-    loop-less
-    loop-again)
+    returns-3)

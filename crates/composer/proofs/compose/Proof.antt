@@ -18,14 +18,19 @@ enum-told c = search needs
 why-requires : tie.Need-why-requires
 why-requires c κs = search needs
 
+refuse-requires : tie.Need-refuse-requires
+refuse-requires c κs = search needs
+
 refused-requires : tie.Need-refused-requires
 refused-requires c κs = search needs
 
 returns : tie.Need-returns
 returns c =
-    let at-read-listing = c .before .before .before .before in
-    let at-enum-told = c .before .before in
-    call-refused _ _ (at-read-listing .read-listing .ensures) (at-enum-told .enum-told .given .1) (c .before .why .ensures) (c .refused .ensures)
+    let at-why = c .before .before in
+    let at-enum-told = at-why .before in
+    let at-read-listing = at-enum-told .before .before in
+    call-refused _ _ (at-read-listing .read-listing .ensures) (at-enum-told .enum-told .given .1) (at-why .why .ensures) (c .before .refuse .ensures)
+    (c .refused .ensures)
 
 add-length : tie.Need-add-length
 add-length c =
@@ -35,14 +40,19 @@ add-length c =
     let s = t .small in
     omega arith
 
+refuse-requires-2 : tie.Need-refuse-requires-2
+refuse-requires-2 c κs = search needs
+
 refused-requires-2 : tie.Need-refused-requires-2
 refused-requires-2 c κs = search needs
 
 returns-2 : tie.Need-returns-2
 returns-2 c =
-    let at-read-listing = c .before .before .before .before .before in
-    let at-read = c .before .before .before in
-    call-short _ _ (at-read-listing .read-listing .ensures) (at-read .read .given .1) (c .before .if1 .taken) (c .refused2 .ensures)
+    let at-if1 = c .before .before in
+    let at-read = at-if1 .before .before in
+    let at-read-listing = at-read .before .before in
+    call-short _ _ (at-read-listing .read-listing .ensures) (at-read .read .given .1) (at-if1 .if1 .taken) (c .before .refuse2 .ensures)
+    (c .refused2 .ensures)
 
 write-file-requires : tie.Need-write-file-requires
 write-file-requires c κs =
@@ -70,9 +80,11 @@ compose-spec =
     enum-known-read
     enum-told
     why-requires
+    refuse-requires
     refused-requires
     returns
     add-length
+    refuse-requires-2
     refused-requires-2
     returns-2
     write-file-requires

@@ -6,16 +6,17 @@ use mathlib.Core.Bool.{true}
 use borrow.Author.Tests.{not-false, not-true}
 use borrow.Author.Needs.{needs}
 use Rattle.form.specs.Place.{readAt}
-use Rattle.rules.specs.Fields.{header}
+use Rattle.diskette.specs.Fields.{header}
 use Rattle.fields.specs.Answers.{ofRead}
 use Rattle.header.specs.Heading.{headers}
+use Rattle.listing.specs.Records.{fieldsOfHeaderLine}
 use Rattle.composer.specs.Telling.{FormedLine}
 use Rattle.composer.proofs.ToldLaws.{header-denied, header-refuses, header-accepts}
 use Rattle.composer.proofs.header_line.Statement.{statement}
 use Rattle.composer.proofs.header_line.Tie as tie
 
 -- behind the test of the form
-formed : (c : tie.Else1) → FormedLine true 8 (c .before .before .before .args .x .now)
+formed : (c : tie.Else1) → FormedLine true fieldsOfHeaderLine (c .before .before .before .args .x .now)
 formed c = (omega arith, (omega arith, sym (c .before .formed .ensures) ∙ not-false _ (c .if1 .left)))
 
 formed-requires : tie.Need-formed-requires

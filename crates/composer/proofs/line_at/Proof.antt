@@ -1,23 +1,23 @@
--- composer::line_at meets its contract: the quick reading tells of the line, or the reading by its record does.
+-- composer::line_at meets its contract: the walk along it tells of the line, or the reading by its record does.
 -- Assumes nothing.
 use native.Mathlib.Omega.{arith}
 use mathlib.Core.Path.{refl, sym, ap, _∙_, subst}
 use borrow.Author.Needs.{needs}
-use Rattle.payment.specs.declared.PaymentRead.the-variants as payment
-use Rattle.payment.specs.Adding.{paymentWhy}
-use Rattle.quick.specs.Told.{Told}
-use Rattle.composer.proofs.StepLaws.{line-inside, line-short, quick-told}
+use Rattle.line_reader.specs.Told.{Told}
+use Rattle.composer.specs.declared.LaidPayment.the-variants as laid
+use Rattle.composer.specs.Telling.{laidWhy}
+use Rattle.composer.proofs.StepLaws.{line-inside, line-short, seen-told}
 use Rattle.composer.proofs.line_at.Statement.{statement}
 use Rattle.composer.proofs.line_at.Tie as tie
 
 read-line-requires : tie.Need-read-line-requires
 read-line-requires c κs = search needs
 
-enum-known-quick : tie.Need-enum-known-quick
-enum-known-quick c = search needs
+enum-known-seen : tie.Need-enum-known-seen
+enum-known-seen c = search needs
 
 returns : tie.Need-returns
-returns c = quick-told (subst (Told _ _ _ _ _) (c .before .quick .given .1) (c .before .before .before .read-line .ensures)) (c .before .before .before .before .before .before .pre .0)
+returns c = seen-told (subst (Told _ _ _ _ _) (c .before .seen .given .1) (c .before .before .before .read-line .ensures)) (c .before .before .before .before .before .before .pre .0)
 
 enum-told : tie.Need-enum-told
 enum-told c = search needs
@@ -63,7 +63,7 @@ returns-3 c =
       record {
         ends = c .before .before .before .before .before .before .before .before .before .reach .ensures;
         more = c .before .before .before .before .before .before .before .before .if1 .left;
-        told = ap payment.Refused (c .why .ensures ∙ ap paymentWhy given) ∙ sym given ∙ c .before .before .before .before .before .payment-line .ensures;
+        told = ap laid.Refused (c .why .ensures ∙ ap laidWhy given) ∙ sym given ∙ c .before .before .before .before .before .payment-line .ensures;
       },
     )
 
@@ -93,7 +93,7 @@ line-at-spec =
     tie.close
     (tie.spec
     read-line-requires
-    enum-known-quick
+    enum-known-seen
     returns
     enum-told
     reach-requires

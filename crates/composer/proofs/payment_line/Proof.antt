@@ -10,13 +10,14 @@ use lib.Seq.{length-take-le, take-at}
 use borrow.Author.Tests.{not-false, not-true}
 use borrow.Author.Needs.{needs}
 use Rattle.form.specs.Place.{readAt}
-use Rattle.rules.specs.Writing.{section}
+use Rattle.document.specs.Marks.{mostParts}
+use Rattle.diskette.specs.Writing.{section}
 use Rattle.fields.specs.Answers.{ofRead, lettersOf}
 use Rattle.sums.specs.Sums.{totalsOf}
 use Rattle.payment.specs.declared.PaymentRead.{PaymentRead}
 use Rattle.payment.specs.Adding.{paymentsOn}
 use Rattle.listing.specs.Lines.{tab, split}
-use Rattle.listing.specs.Records.{recordC, partsOf, lay}
+use Rattle.listing.specs.Records.{recordC, fieldsWith, partsOf, lay}
 use Rattle.listing.specs.Composing.{wholePayment}
 use Rattle.composer.specs.Telling.{FormedLine, behindLetter}
 use Rattle.composer.proofs.ToldLaws.{begins-inside, few, longest, payment-denied, payment-refuses, payment-accepts}
@@ -28,24 +29,24 @@ parts : (c : tie.After-parts-of) → c .parts-of .result ≡ partsOf (length (sp
 parts c = c .parts-of .ensures ∙ ap partsOf (c .before .count-fields .ensures)
 
 -- behind the test of the form
-few-parts : (c : tie.Else1) → c .before .before .parts-of .result ≤ 15
+few-parts : (c : tie.Else1) → c .before .before .parts-of .result ≤ mostParts
 few-parts c = let e = parts (c .before .before) in let h = few (length (split tab (c .before .before .before .before .before .before .args .x .now))) in omega arith
 
-formed : (c : tie.Else1) → FormedLine false (12 + 2 * c .before .before .parts-of .result) (c .before .before .before .before .before .before .args .x .now)
+formed : (c : tie.Else1) → FormedLine false (fieldsWith (c .before .before .parts-of .result)) (c .before .before .before .before .before .before .args .x .now)
 formed c = let h = few-parts c in (omega arith, (omega arith, sym (c .before .formed .ensures) ∙ not-false _ (c .if1 .left)))
 
 -- the record has room
-within : (c : tie.After-bytes-of) → c .bytes-of .result ≤ length (c .before .before .before .before .before .before .before .args .room .now)
+within : (c : tie.After-bytes-of) → c .bytes-of .result ≤ length (c .before .before .before .before .before .before .before .args .space .now)
 within c =
     let h = longest (c .before .before .before .parts-of .result) in
     let e = c .bytes-of .ensures in
     let l = c .before .before .before .before .before .before .before .pre .1 in
     omega arith
 
-long : (c : tie.After-bytes-of) → length (take (c .bytes-of .result) (c .before .before .before .before .before .before .before .args .room .now)) ≡ 128 * section (c .before .before .before .parts-of .result)
+long : (c : tie.After-bytes-of) → length (take (c .bytes-of .result) (c .before .before .before .before .before .before .before .args .space .now)) ≡ 128 * section (c .before .before .before .parts-of .result)
 long c =
     let h = few-parts (c .before) in
-    let m : min (c .before .before .before .parts-of .result) 15 ≡ c .before .before .before .parts-of .result = omega arith in
+    let m : min (c .before .before .before .parts-of .result) mostParts ≡ c .before .before .before .parts-of .result = omega arith in
     length-take-le _ _ (within c) ∙ c .bytes-of .ensures ∙ ap (λ n. 128 * section n) m
 
 -- the record that was laid out, and what stands behind it
@@ -53,7 +54,7 @@ abbrev laid : tie.After-lay-payment → List ℕ
 laid c = c .lay-payment .last .1 .1 .0
 
 abbrev behind : tie.After-lay-payment → List ℕ
-behind c = drop (c .before .before .bytes-of .result) (c .before .before .before .before .before .before .before .before .before .args .room .now)
+behind c = drop (c .before .before .bytes-of .result) (c .before .before .before .before .before .before .before .before .before .args .space .now)
 
 laid-long : (c : tie.After-lay-payment) → length (laid c) ≡ c .before .before .bytes-of .result
 laid-long c = c .lay-payment .kept .1 .1 .0 ∙ length-take-le _ _ (within (c .before .before))

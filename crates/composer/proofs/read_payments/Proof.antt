@@ -1,24 +1,26 @@
 -- composer::read_payments meets its contract: line by line, and then the end.
 -- Assumes nothing.
-use Prim.Native.Nat.{ℕ, _-_}
+use Prim.Native.Nat.{ℕ, _-_, _*_}
 use native.Mathlib.Omega.{arith}
 use mathlib.Core.Path.{_≡_, refl, _∙_, subst}
 use lib.ListN.{length}
 use borrow.Author.Needs.{needs}
-use Rattle.rules.specs.Rules.{mostPayments}
+use Rattle.document.specs.Marks.{mostParts}
+use Rattle.document.specs.Rules.{mostPayments}
+use Rattle.diskette.specs.Writing.{section}
 use Rattle.composer.specs.Telling.{LineTold}
 use Rattle.composer.proofs.ReadingLaws.{Reading, reading-first, heard-is, heard-refused, one-more, record-small, reading-more, reading-refused, reading-cut, reading-none, reading-ends}
 use Rattle.composer.proofs.read_payments.Statement.{statement}
 use Rattle.composer.proofs.read_payments.Tie as tie
 
 abbrev Inv-loop : tie.InvT-loop
-Inv-loop l start kind room₀ p₀ count₀ sums₀ size₀ room p count sums size = Reading l kind start count sums size p × (length room ≡ 768)
+Inv-loop l start kind space₀ p₀ count₀ sums₀ size₀ space p count sums size = Reading l kind start count sums size p × (length space ≡ 128 * section mostParts)
 
 abbrev μ-loop : tie.MeasureT-loop
-μ-loop l start kind room₀ p₀ count₀ sums₀ size₀ room p count sums size = mostPayments - count
+μ-loop l start kind space₀ p₀ count₀ sums₀ size₀ space p count sums size = mostPayments - count
 
--- the room is as long as it was
-kept : {now then first : ℕ} → now ≡ then → then ≡ 768 → first ≡ 768 → now ≡ first
+-- the space is as long as it was
+kept : {now then first : ℕ} → now ≡ then → then ≡ 128 * section mostParts → first ≡ 128 * section mostParts → now ≡ first
 kept e h i = omega arith
 
 loop-holds : tie.Need-loop-holds Inv-loop μ-loop
@@ -40,7 +42,7 @@ returns : tie.Need-returns Inv-loop μ-loop
 returns c =
     let x = subst (LineTold _ _ _ _ _) (c .before .line .given .1) (c .before .before .before .before .before .line-at .ensures) in
     let d = heard-refused _ _ _ _ _ (x .1 .told) refl refl in
-    reading-refused (c .before .before .before .before .before .before .before .loop .inv .0) x.0 (x .1 .ends) (x .1 .more) d.2 d.3
+    reading-refused (c .before .before .before .before .before .before .before .loop .inv .0) x.0 (x .1 .ends) (x .1 .more) d.1 d.2
 
 enum-known-line-2 : tie.Need-enum-known-line-2 Inv-loop μ-loop
 enum-known-line-2 c = search needs

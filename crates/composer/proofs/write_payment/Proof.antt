@@ -6,10 +6,11 @@ use mathlib.Core.Path.{_≡_, sym, ap, _∙_, subst}
 use mathlib.Core.Bool.{false}
 use lib.ListN.{length}
 use borrow.Author.Needs.{needs}
-use Rattle.rules.specs.Writing.{section}
+use Rattle.document.specs.Marks.{mostParts}
+use Rattle.diskette.specs.Writing.{section}
 use Rattle.listing.specs.Lines.{tab, split}
-use Rattle.listing.specs.Records.{recordC, partsOf, lay}
-use Rattle.pen.specs.Writing.{over}
+use Rattle.listing.specs.Records.{recordC, fieldsWith, partsOf, lay}
+use Rattle.output.specs.Writing.{over}
 use Rattle.composer.specs.Telling.{FormedLine, linesParts, behindLetter}
 use Rattle.composer.proofs.ToldLaws.{few}
 use Rattle.composer.proofs.WritingLaws.{part-over, part-long, bytes-told}
@@ -20,11 +21,11 @@ use Rattle.composer.proofs.write_payment.Tie as tie
 parts : (c : tie.After-parts-of) → c .parts-of .result ≡ linesParts (c .before .before .before .args .x .now)
 parts c = c .parts-of .ensures ∙ ap partsOf (c .before .before .before .pre .1 .0)
 
-few-parts : (c : tie.After-parts-of) → c .parts-of .result ≤ 15
+few-parts : (c : tie.After-parts-of) → c .parts-of .result ≤ mostParts
 few-parts c = let e = parts c in let h = few (length (split tab (c .before .before .before .args .x .now))) in omega arith
 
-formed : (c : tie.After-parts-of) → FormedLine false (12 + 2 * c .parts-of .result) (c .before .before .before .args .x .now)
-formed c = subst (λ k. FormedLine false (12 + 2 * k) (c .before .before .before .args .x .now)) (sym (parts c)) (c .before .before .before .pre .0)
+formed : (c : tie.After-parts-of) → FormedLine false (fieldsWith (c .parts-of .result)) (c .before .before .before .args .x .now)
+formed c = subst (λ k. FormedLine false (fieldsWith k) (c .before .before .before .args .x .now)) (sym (parts c)) (c .before .before .before .pre .0)
 
 -- the bytes that its record takes
 size : (c : tie.After-bytes-of) → c .bytes-of .result ≡ 128 * section (linesParts (c .before .before .before .before .args .x .now))

@@ -6,21 +6,21 @@ use mathlib.Core.Path.{_≡_, _∙_}
 use lib.ListN.{length, drop}
 use Rattle.listing.specs.Lines.{lineEnd}
 use Rattle.listing.specs.Composing.{compose}
-use Rattle.pen.specs.Walking.{reach}
-use Rattle.composer.specs.Writing.{paymentsOf}
+use Rattle.line_reader.specs.Reaching.{reach}
+use Rattle.composer.specs.Writing.{composedPayments}
 use Rattle.composer.proofs.StepLaws.{line-inside}
 use Rattle.composer.proofs.WritingLaws.{Putting, Next, next, line-written, next-room, putting-more, texts-end, texts-within, texts-counted, texts-few, counted, putting-first, all-put}
 use Rattle.composer.proofs.write_payments.Statement.{statement}
 use Rattle.composer.proofs.write_payments.Tie as tie
 
 abbrev Inv-loop : tie.InvT-loop
-Inv-loop l start count out₀ p₀ at₀ row₀ out p at row = Putting l out₀ (paymentsOf (compose l)) out row p at
+Inv-loop l start count out₀ p₀ at₀ row₀ out p at row = Putting l out₀ (composedPayments (compose l)) out row p at
 
 abbrev μ-loop : tie.MeasureT-loop
 μ-loop l start count out₀ p₀ at₀ row₀ out p at row = count - row
 
 -- a payment is still to come
-left : (c : tie.In-loop Inv-loop μ-loop) → c .before .loop .row < length (paymentsOf (compose (c .before .before .before .before .args .l .now)))
+left : (c : tie.In-loop Inv-loop μ-loop) → c .before .loop .row < length (composedPayments (compose (c .before .before .before .before .args .l .now)))
 left c = let n = counted (c .before .before .before .before .pre) in let h = c .loop-test .taken in omega arith
 
 -- where its line ends

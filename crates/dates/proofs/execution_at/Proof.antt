@@ -8,8 +8,8 @@ use borrow.Author.Tests.{not-false, not-true}
 use Rattle.form.specs.Kind.{maybe}
 use Rattle.form.specs.Place.{lookAt}
 use Rattle.form.specs.Reader.{has}
-use Rattle.rules.specs.Calendar.{ofDDMMYYYY}
-use Rattle.rules.specs.Fields.{rulesA11b}
+use Rattle.document.specs.Calendar.{ofDDMMYYYY}
+use Rattle.diskette.specs.Fields.{rulesA11b}
 use Rattle.calendar.specs.Days.{dayOf}
 use Rattle.fields.proofs.LeafLaws.{field-broken, field-fails, field-holds}
 use Rattle.dates.specs.Dates.{dayFrom, executions}

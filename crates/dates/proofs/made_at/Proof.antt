@@ -7,8 +7,8 @@ use borrow.Author.Tests.{not-false, not-true}
 use Rattle.form.specs.Kind.{digits}
 use Rattle.form.specs.Place.{lookAt}
 use Rattle.form.specs.Reader.{has}
-use Rattle.rules.specs.Calendar.{ofDDMMYY}
-use Rattle.rules.specs.Fields.{rulesA7}
+use Rattle.document.specs.Calendar.{ofDDMMYY}
+use Rattle.diskette.specs.Fields.{rulesA7}
 use Rattle.calendar.specs.Days.{dayOf}
 use Rattle.fields.proofs.AnswerLaws.{number-is, numbers-told}
 use Rattle.fields.proofs.LeafLaws.{field-broken, field-fails, field-holds}

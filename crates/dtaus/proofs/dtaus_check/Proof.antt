@@ -15,7 +15,7 @@ check-requires : tie.Need-check-requires
 check-requires c κs = search needs
 
 tell-outcome-requires : tie.Need-tell-outcome-requires
-tell-outcome-requires c κs = c .before .before .before .if1 .left
+tell-outcome-requires c κs = c .before .before .if1 .left
 
 same-length : tie.Need-same-length
 same-length c = search needs
@@ -23,7 +23,7 @@ same-length c = search needs
 returns-2 : tie.Need-returns-2
 returns-2 c =
     let t = c .before .before in
-    let k = t .before .before .before in
+    let k = t .before .before in
     let a = k .before .before .before .before .args in
     check-told (a .result .now) (a .file .now) (k .before .if1 .left) (k .check .ensures) (t .tell-outcome .ensures)
 

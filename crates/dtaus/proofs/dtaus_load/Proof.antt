@@ -15,7 +15,7 @@ load-requires : tie.Need-load-requires
 load-requires c κs = search needs
 
 tell-outcome-requires : tie.Need-tell-outcome-requires
-tell-outcome-requires c κs = c .before .before .before .before .before .before .before .before .before .before .before .before .before .before .before .if1 .left
+tell-outcome-requires c κs = c .before .before .before .before .before .before .before .before .before .before .before .before .before .before .if1 .left
 
 same-length : tie.Need-same-length
 same-length c = search needs
@@ -35,7 +35,7 @@ same-length-5 c = search needs
 returns-2 : tie.Need-returns-2
 returns-2 c =
     let t = c .before .before in
-    let l = t .before .before .before .before .before .before .before .before .before .before .before in
+    let l = t .before .before .before .before .before .before .before .before .before .before in
     let i = l .before .before .before .before .before in
     let a = i .before .before .before .before .before .before .before .args in
     load-told (a .result .now) (a .file .now) (a .c4 .now) (a .c5 .now) (a .c12 .now) (a .start .now) (i .if1 .left) (l .load .ensures) (t .tell-outcome .ensures)

@@ -3,7 +3,7 @@
 use native.Mathlib.Omega.{arith}
 use borrow.Author.Needs.{needs}
 use mathlib.Core.Path.{ap, _∙_}
-use Rattle.spots.specs.Spots.{locateAt}
+use Rattle.finder.specs.Spots.{locateAt}
 use Rattle.dtaus.proofs.CallLaws.{text-short, text-told}
 use Rattle.dtaus.proofs.dtaus_text.Statement.{statement}
 use Rattle.dtaus.proofs.dtaus_text.Tie as tie

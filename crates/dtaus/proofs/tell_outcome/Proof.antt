@@ -9,27 +9,30 @@ use Rattle.dtaus.proofs.TellingLaws.{all-told, six-stored}
 use Rattle.dtaus.proofs.tell_outcome.Statement.{statement}
 use Rattle.dtaus.proofs.tell_outcome.Tie as tie
 
+cast-result : tie.Need-cast-result
+cast-result c = search needs
+
 slice-write-result : tie.Need-slice-write-result
 slice-write-result c = search needs
 
 slice-write-result-2 : tie.Need-slice-write-result-2
 slice-write-result-2 c =
-    let h : 1 < length (c .args .result .now) = omega (arith, c .pre) in
+    let h : 1 < length (c .before .args .result .now) = omega (arith, c .before .pre) in
     search (needs, h)
 
 slice-write-result-3 : tie.Need-slice-write-result-3
 slice-write-result-3 c =
-    let h : 2 < length (c .args .result .now) = omega (arith, c .pre) in
+    let h : 2 < length (c .before .args .result .now) = omega (arith, c .before .pre) in
     search (needs, h)
 
 slice-write-result-4 : tie.Need-slice-write-result-4
 slice-write-result-4 c =
-    let h : 3 < length (c .args .result .now) = omega (arith, c .pre) in
+    let h : 3 < length (c .before .args .result .now) = omega (arith, c .before .pre) in
     search (needs, h)
 
 slice-write-result-5 : tie.Need-slice-write-result-5
 slice-write-result-5 c =
-    let h : 4 < length (c .args .result .now) = omega (arith, c .pre) in
+    let h : 4 < length (c .before .args .result .now) = omega (arith, c .before .pre) in
     search (needs, h)
 
 slice-write-result-6 : tie.Need-slice-write-result-6
@@ -40,13 +43,14 @@ same-length c = search needs
 
 returns : tie.Need-returns
 returns c =
-    let xs = c .args .result .now in
-    six-stored xs _ _ _ _ _ _ (c .pre) ∙ all-told _ xs (c .pre)
+    let xs = c .before .args .result .now in
+    six-stored xs _ _ _ _ _ _ (c .before .pre) ∙ all-told _ xs (c .before .pre)
 
 pub tell-outcome-spec : {M : Type 1} → statement M
 tell-outcome-spec =
     tie.close
     (tie.spec
+    cast-result
     slice-write-result
     slice-write-result-2
     slice-write-result-3

@@ -7,7 +7,7 @@ use lib.ListN.{length, take}
 use borrow.Author.Needs.{needs}
 use Rattle.io.proofs.Counting.{front}
 use Rattle.reply.specs.Reply.{listReply}
-use Rattle.reply.proofs.Answers.{reply-is, reply-inside}
+use Rattle.reply.proofs.Promises.{reply-is, reply-inside}
 use Rattle.dtlist.proofs.main.Statement.{statement}
 use Rattle.dtlist.proofs.main.Tie as tie
 

@@ -7,7 +7,7 @@ use lib.ListN.{length, take}
 use borrow.Author.Needs.{needs}
 use Rattle.io.proofs.Counting.{front}
 use Rattle.reply.specs.Reply.{makeReply}
-use Rattle.reply.proofs.Answers.{reply-is, reply-inside}
+use Rattle.reply.proofs.Promises.{reply-is, reply-inside}
 use Rattle.dtmake.proofs.main.Statement.{statement}
 use Rattle.dtmake.proofs.main.Tie as tie
 

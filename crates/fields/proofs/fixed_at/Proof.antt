@@ -11,7 +11,7 @@ use borrow.Author.Needs.{needs}
 use borrow.Author.Tests.{not-false, not-true}
 use Rattle.form.specs.Kind.{fixed}
 use Rattle.form.specs.Reader.{judge, not-fixed}
-use Rattle.rules.specs.Answer.{numberOf}
+use Rattle.verdict.specs.Verdicts.{numberOf}
 use Rattle.fields.specs.Answers.{passings}
 use Rattle.fields.proofs.LeafLaws.{ends-inside, field-length, leaf-right, leaf-short, leaf-wrong}
 use Rattle.fields.proofs.fixed_at.Statement.{statement}

@@ -11,8 +11,8 @@ use borrow.Author.Needs.{needs}
 use borrow.Author.Tests.{not-false, not-true}
 use Rattle.form.specs.Kind.{choice}
 use Rattle.form.specs.Reader.{not-fixed}
-use Rattle.rules.specs.Answer.{numberOf}
-use Rattle.rules.specs.Rules.{fileKinds}
+use Rattle.verdict.specs.Verdicts.{numberOf}
+use Rattle.document.specs.Rules.{fileKinds}
 use Rattle.fields.specs.Answers.{kinds}
 use Rattle.fields.proofs.KindLaws.{judge-kind, kind-letters, named, two-bytes}
 use Rattle.fields.proofs.LeafLaws.{ends-inside, leaf-right, leaf-short, leaf-wrong}

@@ -12,7 +12,7 @@ use borrow.Author.Needs.{needs}
 use borrow.Author.Tests.{not-false, not-true}
 use Rattle.form.specs.Kind.{maybe}
 use Rattle.form.specs.Reader.{not-digit}
-use Rattle.rules.specs.Answer.{numberOf}
+use Rattle.verdict.specs.Verdicts.{numberOf}
 use Rattle.fields.specs.Answers.{maybeNumbers}
 use Rattle.fields.proofs.DigitLaws.{maybe-are, maybe-not}
 use Rattle.fields.proofs.LeafLaws.{ends-inside, field-length, judge-maybe, leaf-right, leaf-short, leaf-wrong}

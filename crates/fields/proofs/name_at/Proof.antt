@@ -10,8 +10,8 @@ use lib.ListN.{length}
 use borrow.Author.Needs.{needs}
 use borrow.Author.Tests.{not-false, not-true}
 use Rattle.form.specs.Reader.{not-sign, short}
-use Rattle.rules.specs.Answer.{numberOf}
-use Rattle.rules.specs.Fields.{rulesOfNames, text27}
+use Rattle.verdict.specs.Verdicts.{numberOf}
+use Rattle.diskette.specs.Fields.{rulesOfNames, text27}
 use Rattle.fields.specs.Answers.{passings}
 use Rattle.fields.specs.Stretches.{signsOf}
 use Rattle.fields.proofs.LeafLaws.{ends-inside, field-broken, field-fails, field-holds, not-whole, text-has, text-not}

@@ -11,7 +11,7 @@ use borrow.Author.Needs.{needs}
 use borrow.Author.Tests.{not-false, not-true}
 use Rattle.form.specs.Kind.{digits}
 use Rattle.form.specs.Reader.{not-digit}
-use Rattle.rules.specs.Answer.{numberOf}
+use Rattle.verdict.specs.Verdicts.{numberOf}
 use Rattle.fields.specs.Answers.{numbers}
 use Rattle.fields.proofs.DigitLaws.{digits-are, digits-not}
 use Rattle.fields.proofs.LeafLaws.{ends-inside, leaf-right, leaf-short, leaf-wrong}

@@ -7,7 +7,7 @@ use mathlib.Core.Path.{_∙_, refl}
 use lib.Dec.{eqb}
 use lib.ListN.{getD}
 use borrow.Author.Needs.{needs}
-use Rattle.rules.specs.Signs.{sign}
+use Rattle.document.specs.Signs.{sign}
 use Rattle.fields.specs.Stretches.{signsOf}
 use Rattle.fields.proofs.StretchLaws.{Flag, Halves, flag-end, flag-more, halves-all, halves-end, halves-more}
 use Rattle.fields.proofs.WalkLaws.{start}

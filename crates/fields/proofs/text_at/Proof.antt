@@ -9,8 +9,8 @@ use lib.Dec.{leb}
 use lib.ListN.{length}
 use borrow.Author.Needs.{needs}
 use borrow.Author.Tests.{not-false, not-true}
-use Rattle.rules.specs.Answer.{numberOf}
-use Rattle.rules.specs.Fields.{text27}
+use Rattle.verdict.specs.Verdicts.{numberOf}
+use Rattle.diskette.specs.Fields.{text27}
 use Rattle.fields.specs.Answers.{ofField, passings}
 use Rattle.fields.specs.Stretches.{signsOf}
 use Rattle.fields.proofs.LeafLaws.{ends-inside, leaf-short, text-has, text-not}

@@ -4,7 +4,7 @@ use mathlib.Core.Path.{_∙_, ap}
 use borrow.Author.Needs.{needs}
 use Rattle.form.specs.Form.{_>>=_, ret}
 use Rattle.form.specs.Place.{readAt}
-use Rattle.rules.specs.Fields.{header}
+use Rattle.diskette.specs.Fields.{header}
 use Rattle.fields.specs.Answers.{ofRead}
 use Rattle.fields.proofs.WalkLaws.{Walk, finish, past-part, start, stopped-part}
 use Rattle.header.specs.declared.HeaderRead.the-variants.{Is}

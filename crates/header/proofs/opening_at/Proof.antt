@@ -28,7 +28,7 @@ past4 : (c : tie.After-known-told4) → Next (past3 (c .before .before .before .
 past4 c = past (past3 (c .before .before .before .before)) (number-is _ _ _ (c .before .before .before .number-at .ensures) (c .before .a4 .given .1))
 
 past5 : (c : tie.After-known-told5) → Next (past4 (c .before .before .before .before)) (c .before .a5 .given .0 .0) (c .before .a5 .given .0 .1 .0)
-past5 c = past-ruled (past4 (c .before .before .before .before)) (number-is _ _ _ (c .before .before .before .sender-bank-at .ensures) (c .before .a5 .given .1))
+past5 c = past-ruled (past4 (c .before .before .before .before)) (number-is _ _ _ (c .before .before .before .sending-bank-at .ensures) (c .before .a5 .given .1))
 
 past6 : (c : tie.After-known-told6) → On (past5 (c .before .before .before .before)) (c .before .a6 .given .0 .0)
 past6 c = pass (past5 (c .before .before .before .before)) (c .before .before .before .text-at .ensures) (c .before .a6 .given .1)
@@ -99,8 +99,8 @@ why-requires-4 c κs = search needs
 returns-4 : tie.Need-returns-4
 returns-4 c = stop numbers-told _ (past3 (c .before .before .before .before)) (c .before .before .before .number-at .ensures) (c .before .enum-told4 .given .1) (c .why4 .ensures)
 
-sender-bank-at-requires : tie.Need-sender-bank-at-requires
-sender-bank-at-requires c κs = search needs
+sending-bank-at-requires : tie.Need-sending-bank-at-requires
+sending-bank-at-requires c κs = search needs
 
 enum-known-a5 : tie.Need-enum-known-a5
 enum-known-a5 c = search needs
@@ -112,7 +112,7 @@ why-requires-5 : tie.Need-why-requires-5
 why-requires-5 c κs = search needs
 
 returns-5 : tie.Need-returns-5
-returns-5 c = stop-ruled numbers-told _ (past4 (c .before .before .before .before)) (c .before .before .before .sender-bank-at .ensures) (c .before .enum-told5 .given .1) (c .why5 .ensures)
+returns-5 c = stop-ruled numbers-told _ (past4 (c .before .before .before .before)) (c .before .before .before .sending-bank-at .ensures) (c .before .enum-told5 .given .1) (c .why5 .ensures)
 
 text-at-requires : tie.Need-text-at-requires
 text-at-requires c κs = search needs
@@ -176,7 +176,7 @@ opening-at-spec =
     enum-told-4
     why-requires-4
     returns-4
-    sender-bank-at-requires
+    sending-bank-at-requires
     enum-known-a5
     enum-told-5
     why-requires-5

@@ -5,7 +5,7 @@ use mathlib.Core.Option.{Option}
 use mathlib.Core.Path.{_≡_}
 use borrow.Author.Needs.{needs}
 use Rattle.form.specs.Place.{readAt}
-use Rattle.rules.specs.Fields.{executionOf}
+use Rattle.diskette.specs.Fields.{executionOf}
 use Rattle.calendar.specs.Days.{dayOf}
 use Rattle.fields.specs.Answers.{ofRead}
 use Rattle.fields.proofs.AnswerLaws.{number-is, numbers-told, pass, passings-told}

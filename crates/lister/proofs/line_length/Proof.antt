@@ -3,7 +3,7 @@
 use Prim.Native.Nat.{_-_}
 use native.Mathlib.Omega.{arith}
 use borrow.Author.Needs.{needs}
-use Rattle.pen.specs.Walking.{cellsOf}
+use Rattle.layout.specs.Cells.{cellsOf}
 use Rattle.lister.proofs.LineLaws.{Lying, lying, width-is, Counting, count-start, count-short, count-more, count-ends}
 use Rattle.lister.proofs.line_length.Statement.{statement}
 use Rattle.lister.proofs.line_length.Tie as tie

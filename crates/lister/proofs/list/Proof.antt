@@ -20,14 +20,19 @@ returns c = list-refused _ _ (c .before .before .before .check .ensures) (c .bef
 has-room-requires : tie.Need-has-room-requires
 has-room-requires c κs = is-accepted _ (c .before .before .check .ensures) (c .if1 .left)
 
+refuse-requires : tie.Need-refuse-requires
+refuse-requires c κs = search needs
+
 refused-requires-2 : tie.Need-refused-requires-2
 refused-requires-2 c κs = search needs
 
 returns-2 : tie.Need-returns-2
 returns-2 c =
-    let l = c .before .before in
+    let t = c .before .before in
+    let l = t .before in
     let a = l .before in
-    list-no-room _ _ (a .before .before .check .ensures) (a .if1 .left) (l .has-room .ensures) (c .before .if2 .taken) (c .refused2 .ensures)
+    list-no-room _ _ (a .before .before .check .ensures) (a .if1 .left) (l .has-room .ensures) (t .if2 .taken) (c .before .refuse .ensures)
+    (c .refused2 .ensures)
 
 abbrev begun : tie.Else2 → tie.Start
 begun c = c .before .before .before .before .before .before .before
@@ -61,6 +66,7 @@ list-spec =
     refused-requires
     returns
     has-room-requires
+    refuse-requires
     refused-requires-2
     returns-2
     print-listing-requires

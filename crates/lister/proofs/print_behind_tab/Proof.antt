@@ -6,8 +6,8 @@ use mathlib.Core.List.{_∷_}
 use lib.ListN.{length}
 use borrow.Author.Needs.{needs}
 use Rattle.listing.specs.Lines.{tab}
-use Rattle.pen.specs.Writing.{over}
-use Rattle.pen.proofs.OverLaws.{over-length}
+use Rattle.output.specs.Writing.{over}
+use Rattle.output.proofs.OverLaws.{over-length}
 use Rattle.lister.proofs.PrintLaws.{behind-tab}
 use Rattle.lister.proofs.print_behind_tab.Statement.{statement}
 use Rattle.lister.proofs.print_behind_tab.Tie as tie

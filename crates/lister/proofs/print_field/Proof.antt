@@ -7,8 +7,8 @@ use mathlib.Core.List.{_∷_}
 use lib.ListN.{length}
 use borrow.Author.Needs.{needs}
 use Rattle.listing.specs.Lines.{tab}
-use Rattle.pen.specs.Writing.{over}
-use Rattle.lister.specs.Printing.{printed, fieldAt}
+use Rattle.output.specs.Writing.{over}
+use Rattle.lister.specs.Printing.{printedCell, printedField}
 use Rattle.lister.proofs.PrintLaws.{cell-inside, cell-printed}
 use Rattle.lister.proofs.print_field.Statement.{statement}
 use Rattle.lister.proofs.print_field.Tie as tie
@@ -20,7 +20,7 @@ begun c = c .before .before .before
 inside : (c : tie.After-cell-at) → begun c .args .p + (c .cell-at .result .place + c .cell-at .result .width) ≤ length (begun c .args .s .now)
 inside c = let a = begun c .args in cell-inside (a .head) (a .i) (a .s .now) (a .p) (c .cell-at .ensures) (begun c .pre .0)
 
-bytes : (c : tie.After-cell-at) → let a = begun c .args in printed (c .cell-at .result) (a .s .now) (a .p) ≡ fieldAt (a .head) (a .i) (a .s .now) (a .p)
+bytes : (c : tie.After-cell-at) → let a = begun c .args in printedCell (c .cell-at .result) (a .s .now) (a .p) ≡ printedField (a .head) (a .i) (a .s .now) (a .p)
 bytes c = let a = begun c .args in cell-printed (a .head) (a .i) (a .s .now) (a .p) (c .cell-at .ensures)
 
 cell-at-requires : tie.Need-cell-at-requires

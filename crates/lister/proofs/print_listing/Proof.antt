@@ -2,8 +2,10 @@
 -- Assumes nothing.
 use Prim.Native.Nat.{_-_}
 use native.Mathlib.Omega.{arith}
+use mathlib.Core.Path.{refl}
 use borrow.Author.Needs.{needs}
-use Rattle.lister.proofs.ListingLaws.{A-lies, Next, next, step-inside}
+use Rattle.layout.proofs.StepLaws.{pass-start, pass-inside, pass-on}
+use Rattle.lister.proofs.ListingLaws.{A-lies, row-on, still-coming, next-lies, next-formed}
 use Rattle.lister.proofs.LoopLaws.{Listing, A-room, list-start, line-room, list-more, list-long, list-ends}
 use Rattle.lister.proofs.print_listing.Statement.{statement}
 use Rattle.lister.proofs.print_listing.Tie as tie
@@ -17,27 +19,23 @@ abbrev μ-loop : tie.MeasureT-loop
 abbrev begun : tie.After-slice-known2 Inv-loop μ-loop → tie.Start Inv-loop μ-loop
 begun c = c .before .before .before .before .before .before
 
--- the payment of the next line
-here : (c : tie.In-loop Inv-loop μ-loop) → Next (begun (c .before .before) .args .s .now) (c .before .loop .p) (c .before .loop .inv .standing .left)
-here c = next (c .before .loop .inv .standing) (c .loop-test .taken)
-
 print-header-requires : tie.Need-print-header-requires Inv-loop μ-loop
 print-header-requires c κs = let b = c .before .before .before in (A-lies _ _ (b .pre .0), A-room _ _ (b .pre .0) (b .args .out .now) (b .pre .1))
 
 loop-holds : tie.Need-loop-holds Inv-loop μ-loop
-loop-holds c = let b = begun c in let e = c .before .before .print-header .ensures in list-start _ _ (b .pre .0) _ (b .pre .1) (e .0) (e .1)
+loop-holds c = let b = begun c in let e = c .before .before .print-header .ensures in list-start _ _ (b .pre .0) _ (b .pre .1) (pass-start _ _ refl) (e .0) (e .1)
 
-parts-at-requires : tie.Need-parts-at-requires Inv-loop μ-loop
-parts-at-requires c κs = here c .known
+count-at-requires : tie.Need-count-at-requires Inv-loop μ-loop
+count-at-requires c κs = search needs
 
 print-payment-requires : tie.Need-print-payment-requires Inv-loop μ-loop
 print-payment-requires c κs =
     let t = c .before in
-    let l = t .before in (
-      rw (t .parts-at .ensures) (here l .lies),
-      rw (t .parts-at .ensures) (here l .formed),
-      line-room (l .before .loop .inv) (l .loop-test .taken) (t .parts-at .ensures),
-    )
+    let l = t .before in
+    let s = l .before .loop .inv in
+    let h = l .loop-test .taken in
+    let told = t .count-at .ensures in
+    (next-lies (s .standing) h told, next-formed (s .standing) h told, line-room s h told)
 
 bytes-of-requires : tie.Need-bytes-of-requires Inv-loop μ-loop
 bytes-of-requires c κs = search needs
@@ -46,7 +44,8 @@ add-p : tie.Need-add-p Inv-loop μ-loop
 add-p c =
     let t = c .before .before .before .before .before in
     let l = t .before in
-    omega (arith, step-inside (l .before .loop .inv .standing) (l .loop-test .taken) (t .parts-at .ensures) (c .bytes-of .ensures))
+    let s = l .before .loop .inv .standing in
+    omega (arith, pass-inside (s .passing) (still-coming s (l .loop-test .taken)) (t .count-at .ensures) (c .bytes-of .ensures))
 
 add-row : tie.Need-add-row Inv-loop μ-loop
 add-row c = omega arith
@@ -58,7 +57,10 @@ loop-again : tie.Need-loop-again Inv-loop μ-loop
 loop-again c =
     let t = c .before .before .before .before .before in
     let e = c .before .before .before .print-payment .ensures in
-    list-more (t .before .before .loop .inv) (t .before .loop-test .taken) (t .parts-at .ensures) (e .0) (e .1) (c .bytes-of .ensures)
+    let s = t .before .before .loop .inv in
+    let h = t .before .loop-test .taken in
+    list-more s h (t .count-at .ensures) (e .0) (e .1)
+    (pass-on (s .standing .passing) (still-coming (s .standing) h) (t .count-at .ensures) (c .bytes-of .ensures) (row-on (s .standing)))
 
 same-length : tie.Need-same-length Inv-loop μ-loop
 same-length c = omega arith
@@ -78,7 +80,7 @@ print-listing-spec =
     μ-loop
     print-header-requires
     loop-holds
-    parts-at-requires
+    count-at-requires
     print-payment-requires
     bytes-of-requires
     add-p

@@ -8,8 +8,8 @@ use mathlib.Core.List.{_∷_}
 use lib.ListN.{length, take, drop}
 use borrow.Author.Needs.{needs}
 use Rattle.listing.specs.Lines.{tab}
-use Rattle.pen.specs.Writing.{over}
-use Rattle.lister.specs.Printing.{printed, fieldAt}
+use Rattle.output.specs.Writing.{over}
+use Rattle.lister.specs.Printing.{printedCell, printedField}
 use Rattle.lister.proofs.PrintLaws.{bytes-are, cell-inside, cell-printed, cell-full}
 use Rattle.lister.proofs.print_number.Statement.{statement}
 use Rattle.lister.proofs.print_number.Tie as tie
@@ -22,11 +22,11 @@ inside : (c : tie.After-cell-at) → begun c .args .p + (c .cell-at .result .pla
 inside c = let a = begun c .args in cell-inside false (a .i) (a .s .now) (a .p) (c .cell-at .ensures) (begun c .pre .0)
 
 -- all its bytes are printed
-width : (c : tie.After-cell-at) → c .cell-at .result .width ≡ length (printed (c .cell-at .result) (begun c .args .s .now) (begun c .args .p))
+width : (c : tie.After-cell-at) → c .cell-at .result .width ≡ length (printedCell (c .cell-at .result) (begun c .args .s .now) (begun c .args .p))
 width c = let a = begun c .args in cell-full false (a .i) (a .s .now) (a .p) (c .cell-at .ensures) (begun c .pre .1)
 
 bytes : (c : tie.After-cell-at) → let a = begun c .args in let j = a .p + c .cell-at .result .place in
-    take (j + c .cell-at .result .width - j) (drop j (a .s .now)) ≡ fieldAt false (a .i) (a .s .now) (a .p)
+    take (j + c .cell-at .result .width - j) (drop j (a .s .now)) ≡ printedField false (a .i) (a .s .now) (a .p)
 bytes c =
     let a = begun c .args in
     let x = c .cell-at .result in

@@ -7,9 +7,10 @@ use mathlib.Core.Bool.{false}
 use mathlib.Core.List.{List, _∷_}
 use lib.ListN.{length}
 use Rattle.listing.specs.Lines.{tab}
-use Rattle.pen.specs.Writing.{over}
-use Rattle.pen.specs.Walking.{cellAt}
-use Rattle.lister.specs.Printing.{FieldLies, fieldAt}
+use Rattle.listing.specs.Records.{numbersOfPaymentLine}
+use Rattle.output.specs.Writing.{over}
+use Rattle.layout.specs.Cells.{cellAt}
+use Rattle.lister.specs.Printing.{FieldLies, printedField}
 use Rattle.lister.proofs.PrintLaws.{Going, going-room, going-more, going-ends, numbersFrom, numbers-more}
 use Rattle.lister.proofs.print_numbers.Statement.{statement}
 use Rattle.lister.proofs.print_numbers.Tie as tie
@@ -21,9 +22,9 @@ To b out at i = let a = b .args in Going (numbersFrom (a .s .now) (a .p)) (a .ou
 to-0 : (b : tie.Start) → To b (b .args .out .now) (b .args .at) 0
 to-0 b = record { room = b .pre .1; long = refl; place = refl; whole = refl }
 
-module _ (b : tie.Start) {out : List ℕ} {at i : ℕ} (g : To b out at i) (h : i < 9) where
+module _ (b : tie.Start) {out : List ℕ} {at i : ℕ} (g : To b out at i) (h : i < numbersOfPaymentLine) where
   abbrev field : List ℕ
-  field = fieldAt false i (b .args .s .now) (b .args .p)
+  field = printedField false i (b .args .s .now) (b .args .p)
 
   may : FieldLies false i (b .args .s .now) (b .args .p) × (length field ≡ cellAt false i .width) × (at + suc (length field) ≤ length out)
   may =
@@ -113,7 +114,7 @@ print-number-requires-9 c κs = let k = c .before .before .before in may (begun-
 abbrev begun-9 : tie.After-print-number9 → tie.Start
 begun-9 c = begun-8 (c .before .before .before .before)
 
-to-9 : (c : tie.After-print-number9) → To (begun-9 c) (c .print-number9 .last .1 .1 .1 .0) (c .print-number9 .result) 9
+to-9 : (c : tie.After-print-number9) → To (begun-9 c) (c .print-number9 .last .1 .1 .1 .0) (c .print-number9 .result) numbersOfPaymentLine
 to-9 c = past (begun-9 c) (to-8 (c .before .before .before .before)) (omega arith) (c .print-number9 .ensures .0) (c .print-number9 .ensures .1)
 
 same-length : tie.Need-same-length

@@ -1,6 +1,6 @@
 -- lister::print_part meets its contract: the mark behind a tab, and the text without its trailing blanks behind another.
 -- Assumes nothing.
-use Prim.Native.Nat.{ℕ, _+_, _-_, _*_, _≤_}
+use Prim.Native.Nat.{ℕ, _+_, _-_, _≤_}
 use native.Mathlib.Omega.{arith}
 use mathlib.Core.Path.{_≡_, ap, ap₂, _∙_}
 use mathlib.Core.Bool.{false}
@@ -8,8 +8,10 @@ use mathlib.Core.List.{List, _∷_}
 use lib.ListN.{length, take, drop, length-append}
 use borrow.Author.Needs.{needs}
 use Rattle.listing.specs.Lines.{tab, trim}
-use Rattle.pen.specs.Writing.{over}
-use Rattle.lister.specs.Printing.{fieldAt}
+use Rattle.listing.specs.Records.{fieldsWith}
+use Rattle.layout.specs.Widths as width
+use Rattle.output.specs.Writing.{over}
+use Rattle.lister.specs.Printing.{printedField}
 use Rattle.lister.proofs.PartLaws.{part-inside, mark-bytes, text-bytes, second-room, both-over}
 use Rattle.lister.proofs.print_part.Statement.{statement}
 use Rattle.lister.proofs.print_part.Tie as tie
@@ -22,22 +24,22 @@ found c = c .before .before .before .before
 
 -- what is printed of the mark, and of the text
 abbrev mark : tie.Start → List ℕ
-mark b = tab ∷ fieldAt false (12 + 2 * b .args .part) (b .args .s .now) (b .args .p)
+mark b = tab ∷ printedField false (fieldsWith (b .args .part)) (b .args .s .now) (b .args .p)
 
 abbrev words : tie.Start → List ℕ
-words b = tab ∷ fieldAt false (12 + 2 * b .args .part + 1) (b .args .s .now) (b .args .p)
+words b = tab ∷ printedField false (fieldsWith (b .args .part) + 1) (b .args .s .now) (b .args .p)
 
-inside : (c : tie.After-cell-at) → begun c .args .p + c .cell-at .result .place + 2 + 27 ≤ length (begun c .args .s .now)
+inside : (c : tie.After-cell-at) → begun c .args .p + c .cell-at .result .place + width.mark + width.text ≤ length (begun c .args .s .now)
 inside c = let b = begun c in part-inside (b .args .part) (b .pre .0) (b .args .s .now) (b .args .p) (b .pre .1) (c .cell-at .ensures)
 
 mark-is : (c : tie.After-cell-at) → let a = begun c .args in let j = a .p + c .cell-at .result .place in
-    tab ∷ take (j + 2 - j) (drop j (a .s .now)) ≡ mark (begun c)
+    tab ∷ take (j + width.mark - j) (drop j (a .s .now)) ≡ mark (begun c)
 mark-is c =
     let b = begun c in
     ap (λ bs. tab ∷ bs) (mark-bytes (b .args .part) (b .pre .0) (b .args .s .now) (b .args .p) (b .pre .1) (c .cell-at .ensures))
 
 words-are : (c : tie.After-cell-at) → let a = begun c .args in
-    tab ∷ trim (take 27 (drop (a .p + c .cell-at .result .place + 2) (a .s .now))) ≡ words (begun c)
+    tab ∷ trim (take width.text (drop (a .p + c .cell-at .result .place + width.mark) (a .s .now))) ≡ words (begun c)
 words-are c =
     let b = begun c in
     ap (λ bs. tab ∷ bs) (text-bytes (b .args .part) (b .pre .0) (b .args .s .now) (b .args .p) (b .pre .1) (c .cell-at .ensures))

@@ -1,29 +1,30 @@
 -- lister::print_payment meets its contract: the letter, the numbers, the texts, mark and text of each part, and the line's end.
 -- Assumes nothing.
-use Prim.Native.Nat.{ℕ, _+_, _-_, _*_, _≤_, _<_}
+use Prim.Native.Nat.{ℕ, _+_, _-_, _≤_, _<_}
 use native.Mathlib.Omega.{arith}
 use mathlib.Core.Path.{_≡_, refl}
 use mathlib.Core.Bool.{false}
 use lib.ListN.{length, set, length-set}
 use borrow.Author.Needs.{needs}
-use Rattle.pen.specs.Walking.{cellsOf, cellAt}
+use Rattle.document.specs.Marks.{mostParts}
+use Rattle.listing.specs.Records.{numbersOfPaymentLine, fieldsOfPaymentLine, fieldsWith}
+use Rattle.layout.specs.Cells.{cellsOf, cellAt}
 use Rattle.lister.specs.Printing.{FieldLies, numbersAt, partAt}
 use Rattle.lister.proofs.LineLaws.{lying, line-long}
-use Rattle.lister.proofs.PrintLaws.{Going, going-start, going-on, going-at, going-room, going-more, restOf, field-room, field-more}
-use Rattle.lister.proofs.PrintLaws.{rest-numbers, rest-part, Ended, line-start, line-ends}
+use Rattle.lister.proofs.PrintLaws.{Going, going-start, going-on, going-at, going-room, going-more, restOf, field-room, field-more, rest-numbers, rest-part, Ended, line-start, line-ends}
 use Rattle.lister.proofs.NumberLaws.{first-full, mark-full}
 use Rattle.lister.proofs.print_payment.Statement.{statement}
 use Rattle.lister.proofs.print_payment.Tie as tie
 
 -- the texts, and then the parts
 abbrev Inv-loop : tie.InvT-loop
-Inv-loop k s p out₀ q at₀ i₀ out at i = (i ≤ 12) × Going (restOf false (12 + 2 * k) s p) out₀ at₀ i₀ out at i
+Inv-loop k s p out₀ q at₀ i₀ out at i = (i ≤ fieldsOfPaymentLine) × Going (restOf false (fieldsWith k) s p) out₀ at₀ i₀ out at i
 
 abbrev μ-loop : tie.MeasureT-loop
-μ-loop k s p out₀ q at₀ i₀ out at i = 12 - i
+μ-loop k s p out₀ q at₀ i₀ out at i = fieldsOfPaymentLine - i
 
 abbrev Inv-loop2 : tie.InvT-loop2
-Inv-loop2 k s p out₀ q at₀ i part₀ out at part = Going (restOf false (12 + 2 * k) s p) out₀ at₀ i out at (12 + 2 * part)
+Inv-loop2 k s p out₀ q at₀ i part₀ out at part = Going (restOf false (fieldsWith k) s p) out₀ at₀ i out at (fieldsWith part)
 
 abbrev μ-loop2 : tie.MeasureT-loop2
 μ-loop2 k s p out₀ q at₀ i part₀ out at part = k - part
@@ -35,31 +36,31 @@ abbrev begun : tie.After-letter Inv-loop μ-loop Inv-loop2 μ-loop2 → Start
 begun c = c .before .before .before
 
 -- field i lies in the file
-lies : (b : Start) (i : ℕ) → i < 12 + 2 * b .args .k → FieldLies false i (b .args .s .now) (b .args .p)
-lies b i h = let a = b .args in lying false (12 + 2 * a .k) (a .s .now) (a .p) (b .pre .0) i h (cellAt false i) refl .inside
+lies : (b : Start) (i : ℕ) → i < fieldsWith (b .args .k) → FieldLies false i (b .args .s .now) (b .args .p)
+lies b i h = let a = b .args in lying false (fieldsWith (a .k)) (a .s .now) (a .p) (b .pre .0) i h (cellAt false i) refl .inside
 
--- a line has 15 parts at most
-few : (b : Start) → b .args .k ≤ 15
-few b = let l = b .pre .0 .0 in let n : length (cellsOf false) ≡ 42 = refl in omega arith
+-- no line has more parts
+few : (b : Start) → b .args .k ≤ mostParts
+few b = let l = b .pre .0 .0 in let n : length (cellsOf false) ≡ fieldsWith mostParts = refl in omega arith
 
 -- behind the letter, the numbers come
 lettered : (c : tie.After-letter Inv-loop μ-loop Inv-loop2 μ-loop2) → let a = begun c .args in
-    Going (restOf false (12 + 2 * a .k) (a .s .now) (a .p)) (set (a .out .now) (a .q) (c .letter .result)) (a .q + 1) 0
+    Going (restOf false (fieldsWith (a .k)) (a .s .now) (a .p)) (set (a .out .now) (a .q) (c .letter .result)) (a .q + 1) 0
     (set (a .out .now) (a .q) (c .letter .result)) (a .q + 1) 0
 lettered c =
     let b = begun c in
     let a = b .args in
-    line-start false (12 + 2 * a .k) (a .s .now) (a .p) (a .out .now) (a .q) (b .pre .2) (c .letter .result) (c .letter .ensures)
+    line-start false (fieldsWith (a .k)) (a .s .now) (a .p) (a .out .now) (a .q) (b .pre .2) (c .letter .result) (c .letter .ensures)
 
 -- and behind them, the texts
 numbered : (c : tie.After-print-numbers Inv-loop μ-loop Inv-loop2 μ-loop2) → let j = c .before .before in let a = begun j .args in
-    Going (restOf false (12 + 2 * a .k) (a .s .now) (a .p)) (set (a .out .now) (a .q) (j .letter .result)) (a .q + 1) 0
-    (c .print-numbers .last .1 .1 .0) (c .print-numbers .result) 9
+    Going (restOf false (fieldsWith (a .k)) (a .s .now) (a .p)) (set (a .out .now) (a .q) (j .letter .result)) (a .q + 1) 0
+    (c .print-numbers .last .1 .1 .0) (c .print-numbers .result) numbersOfPaymentLine
 numbered c =
     let j = c .before .before in
     let b = begun j in
     let a = b .args in
-    going-more (lettered j) (numbersAt (a .s .now) (a .p)) 9 (rest-numbers (12 + 2 * a .k) (a .s .now) (a .p) (b .pre .0) (omega arith))
+    going-more (lettered j) (numbersAt (a .s .now) (a .p)) numbersOfPaymentLine (rest-numbers (fieldsWith (a .k)) (a .s .now) (a .p) (b .pre .0) (omega arith))
     (c .print-numbers .ensures .0) (c .print-numbers .ensures .1)
 
 abbrev line : tie.After-slice-known2 Inv-loop μ-loop Inv-loop2 μ-loop2 → Start
@@ -69,10 +70,10 @@ letter-requires : tie.Need-letter-requires Inv-loop μ-loop Inv-loop2 μ-loop2
 letter-requires c κs = search needs
 
 slice-write-out : tie.Need-slice-write-out Inv-loop μ-loop Inv-loop2 μ-loop2
-slice-write-out c = let a = begun c .args in omega (arith, line-long false (12 + 2 * a .k) (a .s .now) (a .p))
+slice-write-out c = let a = begun c .args in omega (arith, line-long false (fieldsWith (a .k)) (a .s .now) (a .p))
 
 add-print-numbers : tie.Need-add-print-numbers Inv-loop μ-loop Inv-loop2 μ-loop2
-add-print-numbers c = let a = begun (c .before) .args in omega (arith, line-long false (12 + 2 * a .k) (a .s .now) (a .p))
+add-print-numbers c = let a = begun (c .before) .args in omega (arith, line-long false (fieldsWith (a .k)) (a .s .now) (a .p))
 
 print-numbers-requires : tie.Need-print-numbers-requires Inv-loop μ-loop Inv-loop2 μ-loop2
 print-numbers-requires c κs =
@@ -80,9 +81,9 @@ print-numbers-requires c κs =
     let b = begun j in
     let a = b .args in
     let l = b .pre .0 in
-    let full = first-full (12 + 2 * a .k) (a .s .now) (a .p) l (b .pre .1) in (
-      λ i h. let m : i < 12 + 2 * a .k = omega arith in (lies b i m, full i h m),
-      going-room (lettered j) (numbersAt (a .s .now) (a .p)) 9 (rest-numbers (12 + 2 * a .k) (a .s .now) (a .p) l (omega arith)),
+    let full = first-full (fieldsWith (a .k)) (a .s .now) (a .p) l (b .pre .1) in (
+      λ i h. let m : i < fieldsWith (a .k) = omega arith in (lies b i m, full i h m),
+      going-room (lettered j) (numbersAt (a .s .now) (a .p)) numbersOfPaymentLine (rest-numbers (fieldsWith (a .k)) (a .s .now) (a .p) l (omega arith)),
     )
 
 loop-holds : tie.Need-loop-holds Inv-loop μ-loop Inv-loop2 μ-loop2
@@ -93,8 +94,8 @@ print-field-requires c κs =
     let l = c .before .before in
     let b = line (l .before) in
     let a = b .args in
-    let h : l .loop .i < 12 + 2 * a .k = omega arith in
-    (lies b (l .loop .i) h, field-room false (12 + 2 * a .k) (a .s .now) (a .p) (b .pre .0) (l .loop .inv .1) h)
+    let h : l .loop .i < fieldsWith (a .k) = omega arith in
+    (lies b (l .loop .i) h, field-room false (fieldsWith (a .k)) (a .s .now) (a .p) (b .pre .0) (l .loop .inv .1) h)
 
 add-i : tie.Need-add-i Inv-loop μ-loop Inv-loop2 μ-loop2
 add-i c = omega arith
@@ -108,11 +109,11 @@ loop-again c =
     let l = k .before .before .before in
     let b = line (l .before) in
     let a = b .args in
-    let h : l .loop .i < 12 + 2 * a .k = omega arith in
-    (omega arith, field-more false (12 + 2 * a .k) (a .s .now) (a .p) (b .pre .0) (l .loop .inv .1) h (k .print-field .ensures .0) (k .print-field .ensures .1))
+    let h : l .loop .i < fieldsWith (a .k) = omega arith in
+    (omega arith, field-more false (fieldsWith (a .k)) (a .s .now) (a .p) (b .pre .0) (l .loop .inv .1) h (k .print-field .ensures .0) (k .print-field .ensures .1))
 
 loop2-holds : tie.Need-loop2-holds Inv-loop μ-loop Inv-loop2 μ-loop2
-loop2-holds c = let e : c .before .loop .i ≡ 12 = omega arith in going-at (going-start (c .before .loop .inv .1)) e
+loop2-holds c = let e : c .before .loop .i ≡ fieldsOfPaymentLine = omega arith in going-at (going-start (c .before .loop .inv .1)) e
 
 print-part-requires : tie.Need-print-part-requires Inv-loop μ-loop Inv-loop2 μ-loop2
 print-part-requires c κs =
@@ -120,12 +121,12 @@ print-part-requires c κs =
     let b = line (l .before .before .before) in
     let a = b .args in
     let part = l .loop2 .part in
-    let few : part < 15 = let m = few b in omega arith in
-    let h : 12 + 2 * part < 12 + 2 * a .k = omega arith in
-    let k : 12 + 2 * part + 1 < 12 + 2 * a .k = omega arith in (
+    let few : part < mostParts = let m = few b in omega arith in
+    let h : fieldsWith part < fieldsWith (a .k) = omega arith in
+    let k : fieldsWith part + 1 < fieldsWith (a .k) = omega arith in (
       few,
-      (lies b (12 + 2 * part) h, lies b (12 + 2 * part + 1) k, mark-full (12 + 2 * a .k) (a .s .now) (a .p) (b .pre .0) (b .pre .1) part few h),
-      going-room (l .loop2 .inv) (partAt part (a .s .now) (a .p)) (12 + 2 * (part + 1)) (rest-part (12 + 2 * a .k) (a .s .now) (a .p) (b .pre .0) part k),
+      (lies b (fieldsWith part) h, lies b (fieldsWith part + 1) k, mark-full (fieldsWith (a .k)) (a .s .now) (a .p) (b .pre .0) (b .pre .1) part few h),
+      going-room (l .loop2 .inv) (partAt part (a .s .now) (a .p)) (fieldsWith (part + 1)) (rest-part (fieldsWith (a .k)) (a .s .now) (a .p) (b .pre .0) part k),
     )
 
 add-part : tie.Need-add-part Inv-loop μ-loop Inv-loop2 μ-loop2
@@ -141,13 +142,13 @@ loop2-again c =
     let b = line (l .before .before .before) in
     let a = b .args in
     let part = l .loop2 .part in
-    let h : 12 + 2 * part + 1 < 12 + 2 * a .k = omega arith in
-    going-more (l .loop2 .inv) (partAt part (a .s .now) (a .p)) (12 + 2 * (part + 1)) (rest-part (12 + 2 * a .k) (a .s .now) (a .p) (b .pre .0) part h)
+    let h : fieldsWith part + 1 < fieldsWith (a .k) = omega arith in
+    going-more (l .loop2 .inv) (partAt part (a .s .now) (a .p)) (fieldsWith (part + 1)) (rest-part (fieldsWith (a .k)) (a .s .now) (a .p) (b .pre .0) part h)
     (k .print-part .ensures .0) (k .print-part .ensures .1)
 
 -- behind the last part there is room for the line's end
 ended : (c : tie.After-loop2 Inv-loop μ-loop Inv-loop2 μ-loop2) → let l = c .before in let a = line (l .before .before .before) .args in
-    Ended false (12 + 2 * a .k) (a .s .now) (a .p) (a .out .now) (a .q) (l .loop2 .out) (l .loop2 .at)
+    Ended false (fieldsWith (a .k)) (a .s .now) (a .p) (a .out .now) (a .q) (l .loop2 .out) (l .loop2 .at)
 ended c =
     let l = c .before in
     let m = l .before .before in
@@ -155,7 +156,7 @@ ended c =
     let j = n .before .before in
     let b = begun j in
     let a = b .args in
-    line-ends false (12 + 2 * a .k) (a .s .now) (a .p) (a .out .now) (a .q) (b .pre .2) (j .letter .result) (j .letter .ensures) (omega arith)
+    line-ends false (fieldsWith (a .k)) (a .s .now) (a .p) (a .out .now) (a .q) (b .pre .2) (j .letter .result) (j .letter .ensures) (omega arith)
     (going-on (numbered n) (going-on (m .loop .inv .1) (l .loop2 .inv)))
 
 slice-write-out-2 : tie.Need-slice-write-out-2 Inv-loop μ-loop Inv-loop2 μ-loop2

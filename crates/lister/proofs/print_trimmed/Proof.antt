@@ -7,7 +7,7 @@ use mathlib.Core.List.{_∷_}
 use lib.ListN.{length, take, drop}
 use borrow.Author.Needs.{needs}
 use Rattle.listing.specs.Lines.{tab, trim}
-use Rattle.pen.specs.Writing.{over}
+use Rattle.output.specs.Writing.{over}
 use Rattle.lister.proofs.LineLaws.{width-is}
 use Rattle.lister.proofs.PrintLaws.{printed-narrow, bytes-are}
 use Rattle.lister.proofs.print_trimmed.Statement.{statement}

@@ -3,7 +3,7 @@
 use native.Mathlib.Omega.{arith}
 use mathlib.Core.Path.{_∙_}
 use borrow.Author.Needs.{needs}
-use Rattle.rules.specs.Writing.{section, toNextPart}
+use Rattle.diskette.specs.Writing.{section, toNextPart}
 use Rattle.parts.proofs.Laws.{closing-none, closing-some, eleven, none-between, twelve}
 use Rattle.parts.proofs.closing_before.Statement.{statement}
 use Rattle.parts.proofs.closing_before.Tie as tie

@@ -2,7 +2,7 @@
 -- Assumes nothing.
 use mathlib.Core.Path.{_∙_, sym}
 use borrow.Author.Needs.{needs}
-use Rattle.rules.specs.Writing.{section}
+use Rattle.diskette.specs.Writing.{section}
 use Rattle.parts.proofs.Laws.{closing-some, some-behind}
 use Rattle.parts.proofs.closing_behind.Statement.{statement}
 use Rattle.parts.proofs.closing_behind.Tie as tie

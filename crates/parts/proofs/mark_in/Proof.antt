@@ -6,7 +6,8 @@ use borrow.Author.Tests.{lt-leb, le-leb, not-false, not-true}
 use Rattle.form.specs.Kind.{digits}
 use Rattle.form.specs.Reader.{has}
 use Rattle.form.specs.Place.{lookAt}
-use Rattle.rules.specs.Fields.{roomAfter, markRules}
+use Rattle.document.specs.Marks.{roomAfter}
+use Rattle.diskette.specs.Fields.{markRules}
 use Rattle.fields.specs.Answers.{numbers}
 use Rattle.fields.proofs.WalkLaws.{fails}
 use Rattle.fields.proofs.AnswerLaws.{numbers-told, number-is}

@@ -9,7 +9,7 @@ use Rattle.form.specs.Kind.{digits, Value}
 use Rattle.form.specs.Reader.{has}
 use Rattle.form.specs.Place.{lookAt, fieldAt, readAt}
 use Rattle.form.proofs.PlaceLaws.{look-inside, field-inside}
-use Rattle.rules.specs.Fields.{text27, markRules, parts}
+use Rattle.diskette.specs.Fields.{text27, markRules, parts}
 use Rattle.fields.specs.Answers.{ofRead, passings}
 use Rattle.fields.proofs.WalkLaws.{Walk, Next, start, past, stopped, past-ruled, stopped-ruled, fails}
 use Rattle.fields.proofs.AnswerLaws.{passings-told, numbers-told, passed-to, number-is}

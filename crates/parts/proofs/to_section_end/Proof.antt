@@ -1,7 +1,7 @@
 -- parts::to_section_end meets its contract: the width of the rules, in the second section and behind it.
 -- Assumes nothing.
 use borrow.Author.Tests.{le-leb, lt-leb}
-use Rattle.rules.specs.Writing.{toSectionEnd}
+use Rattle.diskette.specs.Writing.{toSectionEnd}
 use borrow.Author.Needs.{needs}
 use Rattle.parts.proofs.to_section_end.Statement.{statement}
 use Rattle.parts.proofs.to_section_end.Tie as tie

@@ -6,14 +6,14 @@ use mathlib.Core.Path.{_∙_}
 use borrow.Author.Needs.{needs}
 use Rattle.form.specs.Form.{Form, ret}
 use Rattle.form.specs.Place.{readAt}
-use Rattle.rules.specs.Fields.{Name, parts, payment}
-use Rattle.rules.specs.Values.{Part, Payment}
+use Rattle.diskette.specs.Fields.{Name, parts, payment}
+use Rattle.document.specs.Values.{Part, Payment}
 use Rattle.fields.specs.Answers.{lettersOf, ofRead}
 use Rattle.fields.proofs.AnswerLaws.{number-form, numbers-told, passed-form, passings-told}
 use Rattle.fields.proofs.WalkLaws.{Walk, finish, past-part, start, stopped-part}
 use Rattle.sums.specs.Sums.{totalsOf}
-use Rattle.sections.specs.Sections.{Amount, Names, Receiver, amount, joined, names, partCount, receiver}
-use Rattle.sections.proofs.Laws.{amount-is, amounts-told, receiver-is, receivers-told}
+use Rattle.payment_fields.specs.Stretches.{Amount, Names, Receiver, amount, joined, names, partCount, receiver}
+use Rattle.payment_fields.proofs.Laws.{amount-is, amounts-told, receiver-is, receivers-told}
 use Rattle.payment.specs.Adding.{paymentsOn}
 use Rattle.payment.proofs.Laws.{behindAmount, behindCount, behindNames, behindReceiver, sums-are}
 use Rattle.payment.proofs.payment_at.Statement.{statement}

@@ -2,10 +2,10 @@
 -- Assumes nothing.
 use native.Mathlib.Omega.{arith}
 use borrow.Author.Needs.{needs}
-use Rattle.rules.specs.Answer.{answer}
+use Rattle.diskette.specs.Answer.{answer}
 use Rattle.listing.specs.Endings.{listed}
 use Rattle.lister.proofs.ListingLaws.{listed-as}
-use Rattle.lister.proofs.Answers.{lists-exactly}
+use Rattle.lister.proofs.Promises.{lists-exactly}
 use Rattle.reply.proofs.ReplyLaws.{print-too-long, print-refused, print-written}
 use Rattle.reply.proofs.list.Statement.{statement}
 use Rattle.reply.proofs.list.Tie as tie

@@ -3,9 +3,9 @@
 use borrow.Author.Needs.{needs}
 use Rattle.listing.specs.Composing.{compose}
 use Rattle.listing.specs.Endings.{composed}
-use Rattle.listing.proofs.Rounds.{composes-exactly}
+use Rattle.listing.proofs.Promises.{composes-exactly}
 use Rattle.composer.proofs.CallLaws.{made-ends}
-use Rattle.composer.proofs.Answers.{composes-exactly-where}
+use Rattle.composer.proofs.Promises.{composes-exactly-where}
 use Rattle.reply.proofs.ReplyLaws.{print-too-long, print-refused, print-written}
 use Rattle.reply.proofs.make.Statement.{statement}
 use Rattle.reply.proofs.make.Tie as tie

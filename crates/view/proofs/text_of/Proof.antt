@@ -28,10 +28,10 @@ use denote.Enum.Laws as EL
 use denote.Triple.Statement.{Triple}
 use denote.Triple.Entry.{onEntry}
 use denote.Triple.Table.{cited}
-use Rattle.spots.specs.Spots.{findAt}
-use Rattle.spots.specs.declared.Wanted.{Wanted}
-use Rattle.spots.proofs.Wanted as E
-use Rattle.spots.proofs.Wanted.Laws as E′
+use Rattle.finder.specs.Spots.{findAt}
+use Rattle.finder.specs.declared.Wanted.{Wanted}
+use Rattle.finder.proofs.Wanted as E
+use Rattle.finder.proofs.Wanted.Laws as E′
 use Rattle.view.specs.Views.{IsMade, IsHanded}
 use Rattle.view.proofs.Made.Laws as N′
 use Rattle.view.proofs.Handed.Laws as H″

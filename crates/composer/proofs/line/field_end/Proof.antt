@@ -6,8 +6,8 @@ use native.Mathlib.Omega.{arith}
 use mathlib.Core.Path.{_≡_, refl}
 use lib.ListN.{length, drop}
 use Rattle.listing.specs.Lines.{tab}
-use Rattle.pen.specs.Walking.{reach}
-use Rattle.pen.proofs.ReachLaws.{reach-here, reach-on, reach-end}
+use Rattle.line_reader.specs.Reaching.{reach}
+use Rattle.line_reader.proofs.ReachLaws.{reach-here, reach-on, reach-end}
 use Rattle.composer.proofs.line.field_end.Statement.{statement}
 use Rattle.composer.proofs.line.field_end.Tie as tie
 

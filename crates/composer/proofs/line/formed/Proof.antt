@@ -5,8 +5,7 @@ use native.Mathlib.Omega.{arith}
 use mathlib.Core.Path.{sym, _∙_}
 use borrow.Author.Needs.{needs}
 use borrow.Author.Tests.{not-true, not-false}
-use Rattle.composer.proofs.FormLaws.{cells-few, stand-ends, stand-more}
-use Rattle.composer.proofs.FormLaws.{Forming, other-count, other-letter, form-first, form-not, form-more, form-last}
+use Rattle.composer.proofs.FormLaws.{cells-few, stand-ends, stand-more, Forming, other-count, other-letter, form-first, form-not, form-more, form-last}
 use Rattle.composer.proofs.line.formed.Statement.{statement}
 use Rattle.composer.proofs.line.formed.Tie as tie
 

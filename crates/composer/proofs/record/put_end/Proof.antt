@@ -4,7 +4,7 @@ use native.Mathlib.Omega.{arith}
 use mathlib.Core.Path.{ap, _∙_}
 use lib.ListN.{length}
 use borrow.Author.Needs.{needs}
-use Rattle.rules.proofs.LayoutLaws.{end-length}
+use Rattle.diskette.proofs.LayoutLaws.{end-length}
 use Rattle.composer.proofs.OwnLaws.{end-written}
 use Rattle.composer.proofs.record.put_end.Statement.{statement}
 use Rattle.composer.proofs.record.put_end.Tie as tie

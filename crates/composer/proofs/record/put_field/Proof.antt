@@ -6,8 +6,8 @@ use mathlib.Core.Path.{_≡_}
 use mathlib.Core.Logic.{⊎-elim}
 use lib.ListN.{length, drop}
 use Rattle.listing.specs.Lines.{tab}
-use Rattle.pen.specs.Walking.{reach}
-use Rattle.pen.proofs.ReachLaws.{reach-here, reach-end}
+use Rattle.line_reader.specs.Reaching.{reach}
+use Rattle.line_reader.proofs.ReachLaws.{reach-here, reach-end}
 use Rattle.composer.proofs.PutLaws.{Copying, copy-start, copy-room, copy-more, copy-end}
 use Rattle.composer.proofs.record.put_field.Statement.{statement}
 use Rattle.composer.proofs.record.put_field.Tie as tie

@@ -4,31 +4,25 @@ use Prim.Native.Nat.{_+_}
 use native.Mathlib.Omega.{arith}
 use borrow.Author.Needs.{needs}
 use borrow.Author.Tests.{lt-leb, le-leb}
-use Rattle.rules.specs.Rules.{mostCents}
+use Rattle.document.specs.Rules.{mostCents}
 use Rattle.sums.specs.Sums.{centsAdded}
 use Rattle.sums.proofs.CentSum.add.Statement.{statement}
 use Rattle.sums.proofs.CentSum.add.Tie as tie
 
-refuse-requires : tie.Need-refuse-requires
-refuse-requires c κs = search needs
-
 returns : tie.Need-returns
 unfolding centsAdded
-returns c = let a = c .before .before .args in rw (c .refuse .ensures, lt-leb (a .self .0 + a .v) mostCents (omega arith))
-
-refuse-requires-2 : tie.Need-refuse-requires-2
-refuse-requires-2 c κs = search needs
+returns c = let a = c .before .args in rw (lt-leb (a .self .0 + a .v) mostCents (omega arith))
 
 returns-2 : tie.Need-returns-2
 unfolding centsAdded
-returns-2 c = let a = c .before .before .before .args in rw (c .refuse2 .ensures, lt-leb (a .self .0 + a .v) mostCents (omega arith))
+returns-2 c = let a = c .before .before .args in rw (lt-leb (a .self .0 + a .v) mostCents (omega arith))
 
-add-t8 : tie.Need-add-t8
-add-t8 c = search needs
+add-t5 : tie.Need-add-t5
+add-t5 c = search needs
 
 returns-3 : tie.Need-returns-3
 unfolding centsAdded
 returns-3 c = let a = c .before .before .args in rw (le-leb (a .self .0 + a .v) mostCents (omega arith))
 
 pub add-spec : {M : Type 1} → statement M
-add-spec = tie.close (tie.spec refuse-requires returns refuse-requires-2 returns-2 add-t8 returns-3)
+add-spec = tie.close (tie.spec returns returns-2 add-t5 returns-3)

@@ -1,0 +1,9 @@
+pub mod HeaderSays
+pub mod PartsSays
+pub mod PaymentSays
+pub mod EndSays
+pub mod FileSays
+pub mod LayoutLaws
+pub mod Viability
+pub mod Numbers
+pub mod Promises

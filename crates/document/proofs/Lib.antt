@@ -1,0 +1,6 @@
+pub mod CalendarLaws
+pub mod DateLaws
+pub mod MarkLaws
+pub mod FieldLaws
+pub mod SumLaws
+pub mod Promises

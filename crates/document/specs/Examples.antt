@@ -1,0 +1,70 @@
+-- Worked values on both sides of each line that a definition draws: one list, one claim.
+use Prim.Native.Nat.{ℕ}
+use mathlib.Core.Path.{_≡_, refl}
+use mathlib.Core.Bool.{Bool, true, false}
+use mathlib.Core.List.{List, [], _∷_, map}
+use Rattle.form.specs.Kind.{every, among}
+use Rattle.document.specs.Signs.{ascii, sign, notAllBlank}
+use Rattle.document.specs.Calendar.{Day, leapDay, monthDays, isDay, yearsDays, monthsDays, dayNumber, inSpan, ofDDMMYY}
+use Rattle.document.specs.Rules.{fileKinds, sendingBankOk, bankCodeOk, customerOk, notZero, keyOk}
+
+-- what a definition says of a value, and what it is to say
+pub record Example : Type 0 where
+  pub says : Bool
+  pub wanted : Bool
+
+abbrev yes : Bool → Example
+yes b = record { says = b; wanted = true }
+
+abbrev no : Bool → Example
+no b = record { says = b; wanted = false }
+
+abbrev on : ℕ → ℕ → ℕ → Day
+on d m y = record { day = d; month = m; year = y }
+
+unfoldable pub examples : List Example
+unfolding leapDay monthDays isDay yearsDays monthsDays dayNumber inSpan ofDDMMYY
+examples =
+    -- signs: each special sign and umlaut, the bytes beside them
+    yes (every sign (ascii ".,&-/+*$%[\\]~ 09AZ"))
+    ∷ no (sign 0x7D)
+    ∷ no (sign 0x40)
+    ∷ no (sign 0x61)
+    ∷ no (notAllBlank (ascii "  "))
+    -- the four kinds of file, and A5 by them
+    ∷ yes (every (among fileKinds) (ascii "GK" ∷ ascii "LK" ∷ ascii "GB" ∷ ascii "LB" ∷ []))
+    ∷ no (among fileKinds (ascii "GG"))
+    ∷ no (sendingBankOk (ascii "LK") 1)
+    ∷ yes (sendingBankOk (ascii "LB") 1)
+    -- a bank code, an internal customer number, an amount
+    ∷ no (bankCodeOk 9_999_999)
+    ∷ yes (bankCodeOk 10_000_000)
+    ∷ yes (bankCodeOk 89_999_999)
+    ∷ no (bankCodeOk 90_000_000)
+    ∷ yes (customerOk 999_999_999_990)
+    ∷ no (customerOk 1_000_000_000_000)
+    ∷ no (customerOk 1)
+    ∷ no (notZero 0)
+    -- keys of credits and of debits
+    ∷ yes (every (keyOk (ascii "GB")) (51 ∷ 53 ∷ 54 ∷ 56 ∷ []))
+    ∷ no (keyOk (ascii "GB") 5)
+    ∷ yes (every (keyOk (ascii "LK")) (4 ∷ 5 ∷ []))
+    ∷ no (keyOk (ascii "LK") 51)
+    -- days: of November, of a century's end, of the last year; the century's pivot; the span
+    ∷ yes (isDay (on 30 11 2004))
+    ∷ no (isDay (on 31 11 2004))
+    ∷ yes (isDay (on 29 2 2000))
+    ∷ no (isDay (on 29 2 1900))
+    ∷ no (isDay (on 1 1 0))
+    ∷ yes (isDay (on 31 12 9999))
+    ∷ yes (inSpan (ofDDMMYY 311279) (on 15 1 2080))
+    ∷ yes (inSpan (ofDDMMYY 10180) (on 16 1 1980))
+    ∷ yes (inSpan (on 15 3 2004) (on 15 3 2004))
+    ∷ yes (inSpan (on 15 3 2004) (on 30 3 2004))
+    ∷ no (inSpan (on 15 3 2004) (on 31 3 2004))
+    ∷ no (inSpan (on 15 3 2004) (on 14 3 2004))
+    ∷ []
+
+pub examples-hold : map (λ (e : Example). e .says) examples ≡ map (λ (e : Example). e .wanted) examples
+unfolding examples
+examples-hold = refl

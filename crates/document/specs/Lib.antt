@@ -1,0 +1,6 @@
+pub mod Signs
+pub mod Calendar
+pub mod Values
+pub mod Rules
+pub mod Marks
+pub mod Examples

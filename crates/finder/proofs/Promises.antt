@@ -1,0 +1,194 @@
+-- What `find` and `locate` come to, for every file: one that is not acceptable is refused as the check refuses it; what is not there is 19 at 0;
+-- and payment n of an acceptable file is found, and so is each of its texts.
+-- Assumes nothing.
+use Prim.Native.Nat.{ℕ, _+_, _≤_}
+use native.Mathlib.Omega.{arith}
+use mathlib.Core.Path.{_≡_, refl, sym, ap, _∙_}
+use mathlib.Core.Logic.{_↔_, _≢_}
+use mathlib.Core.List.{List, _++_}
+use mathlib.Core.Option.{Option, none, some}
+use lib.ListN.{length, take, drop, getElem?}
+use Rattle.form.specs.Reader.{Answer, accepted, refused}
+use Rattle.document.specs.Values.{Payment, Document}
+use Rattle.diskette.specs.Writing.{writeHeader, writePayment, writePayments, Acceptable}
+use Rattle.diskette.specs.Fields.{Name}
+use Rattle.diskette.specs.Answer.{answer, outcome, paymentsOf}
+use Rattle.diskette.proofs.LayoutLaws.{header-length}
+use Rattle.diskette.proofs.Promises.{zero-exactly, accepted-exactly, accepted-reading}
+use Rattle.layout.specs.Steps.{firstPayment}
+use Rattle.layout.proofs.CellLaws.{beyond}
+use Rattle.loader.specs.Columns.{starts}
+use Rattle.loader.proofs.FillLaws.{length-starts}
+use Rattle.loader.proofs.RowLaws.{start-there, stands-at}
+use Rattle.finder.specs.declared.Wanted.{Wanted}
+use Rattle.finder.specs.declared.Spot.{Spot}
+use Rattle.finder.specs.Texts.{textOf, textWidth, placeOf, begunAt}
+use Rattle.finder.specs.Spots.{nowhere, standing, noSuch, fromStart, finding, findAt, ifText, ifBegun, locating, locateAt}
+use Rattle.finder.proofs.BegunLaws.{begun-at-start, start-begun, none-at, begun-there}
+use Rattle.finder.proofs.TextLaws.{text-stands}
+
+-- ---- one answer
+
+pub one-found : (file : List ℕ) (n : ℕ) (x y : Spot) → x ≡ findAt file n → y ≡ findAt file n → x ≡ y
+one-found file n x y e f = e ∙ sym f
+
+pub one-located : (file : List ℕ) (start : ℕ) (w : Wanted) (x y : Spot) → x ≡ locateAt file start w → y ≡ locateAt file start w → x ≡ y
+one-located file start w x y e f = e ∙ sym f
+
+-- ---- where things stand
+
+module _ (file : List ℕ) where
+  -- a file that is not acceptable is refused as the check refuses it, whatever is sought
+  pub refused-as-checked : ¬ Acceptable file → (n start : ℕ) (w : Wanted)
+      → (findAt file n ≡ nowhere (outcome (answer file) .verdict)) × (locateAt file start w ≡ nowhere (outcome (answer file) .verdict))
+  unfolding findAt finding locateAt locating
+  refused-as-checked not n start w = by (answer file) refl
+    where
+      by : (a : Answer Name Document) → answer file ≡ a → (finding a n (length file) ≡ nowhere (outcome a .verdict)) × (locating a start w ≡ nowhere (outcome a .verdict))
+      by (accepted d) e = absurd (not (accepted-exactly file .0 (d, e)))
+      by (refused r) e = (refl, refl)
+
+  -- a refusal has an empty stretch
+  pub find-refuses : (n : ℕ) → findAt file n .verdict .number ≢ 0 → findAt file n ≡ nowhere (findAt file n .verdict)
+  unfolding findAt finding
+  find-refuses n nonzero = by (answer file) nonzero
+    where
+      begun : (o : Option ℕ) → fromStart o (length file) .verdict .number ≢ 0
+          → fromStart o (length file) ≡ nowhere (fromStart o (length file) .verdict)
+      begun none nz = refl
+      begun (some q) nz = absurd (nz refl)
+
+      by : (a : Answer Name Document) → finding a n (length file) .verdict .number ≢ 0
+          → finding a n (length file) ≡ nowhere (finding a n (length file) .verdict)
+      by (refused r) nz = refl
+      by (accepted d) nz = begun (getElem? (starts (d .payments)) n) nz
+
+  pub locate-refuses : (start : ℕ) (w : Wanted) → locateAt file start w .verdict .number ≢ 0
+      → locateAt file start w ≡ nowhere (locateAt file start w .verdict)
+  unfolding locateAt locating
+  locate-refuses start w nonzero = by (answer file) nonzero
+    where
+      there : (o : Option (List ℕ)) (q : ℕ) → ifText o q .verdict .number ≢ 0 → ifText o q ≡ nowhere (ifText o q .verdict)
+      there none q nz = refl
+      there (some t) q nz = absurd (nz refl)
+
+      begun : (o : Option Payment) → ifBegun o start w .verdict .number ≢ 0 → ifBegun o start w ≡ nowhere (ifBegun o start w .verdict)
+      begun none nz = refl
+      begun (some y) nz = there (textOf w y) (start + placeOf w) nz
+
+      by : (a : Answer Name Document) → locating a start w .verdict .number ≢ 0 → locating a start w ≡ nowhere (locating a start w .verdict)
+      by (refused r) nz = refl
+      by (accepted d) nz = begun (begunAt start (d .payments)) nz
+
+  module _ (x : Acceptable file) where
+    abbrev ps : List Payment
+    ps = x .0 .payments
+
+    found-as : (n : ℕ) → findAt file n ≡ fromStart (getElem? (starts ps) n) (length file)
+    unfolding findAt finding
+    found-as n = ap (λ a. finding a n (length file)) (accepted-reading file x)
+
+    located-as : (start : ℕ) (w : Wanted) → locateAt file start w ≡ ifBegun (begunAt start ps) start w
+    unfolding locateAt locating
+    located-as start w = ap (λ a. locating a start w) (accepted-reading file x)
+
+    -- there are fewer payments
+    pub no-payment : (n : ℕ) → length ps ≤ n → findAt file n ≡ noSuch
+    no-payment n h = found-as n ∙ ap (λ o. fromStart o (length file)) (beyond (starts ps) n (omega (arith, length-starts firstPayment ps)))
+
+    -- no payment begins there
+    pub no-start : (start : ℕ) → ((n : ℕ) → getElem? (starts ps) n ≡ some start → ⊥) → (w : Wanted) → locateAt file start w ≡ noSuch
+    unfolding begunAt
+    no-start start not w = located-as start w ∙ ap (λ o. ifBegun o start w) (none-at firstPayment ps start not)
+
+    -- payment n, where it is p: A and the payments before it end where it begins, and its bytes stand there; it is found, and so is each of its
+    -- texts, all 27 bytes; a text that it has not is 19
+    pub record PaymentIs (n : ℕ) (p : Payment) (start : ℕ) : Type 0 where
+      pub ahead : take start file ≡ writeHeader (x .0 .header) ++ writePayments (take n ps)
+      pub bytes : take (length (writePayment p)) (drop start file) ≡ writePayment p
+      pub found : findAt file n ≡ standing start (length file)
+      pub text : (w : Wanted) (t : List ℕ) → textOf w p ≡ some t → locateAt file start w ≡ standing (start + placeOf w) (start + placeOf w + textWidth)
+      pub text-bytes : (w : Wanted) (t : List ℕ) → textOf w p ≡ some t → take textWidth (drop (start + placeOf w) file) ≡ t
+      pub no-text : (w : Wanted) → textOf w p ≡ none → locateAt file start w ≡ noSuch
+
+    module _ (n : ℕ) (p : Payment) (is : getElem? ps n ≡ some p) where
+      -- behind A and the payments before it
+      abbrev pub startOf : ℕ
+      startOf = firstPayment + length (writePayments (take n ps))
+
+      begun : begunAt startOf ps ≡ some p
+      unfolding begunAt
+      begun = begun-at-start firstPayment ps n startOf p (start-there p firstPayment ps n is) is
+
+      located : (w : Wanted) → locateAt file startOf w ≡ ifText (textOf w p) (startOf + placeOf w)
+      located w = located-as startOf w ∙ ap (λ o. ifBegun o startOf w) begun
+
+      pub payment-is : PaymentIs n p startOf
+      unfolding paymentsOf
+      payment-is =
+          let h = header-length (x .0 .header) (x .1 .header) in
+          let s = stands-at (x .0) file (x .2) n p is startOf (ap (λ a. a + length (writePayments (take n ps))) (sym h)) in
+          let b = begun-there file startOf p (ap (λ a. begunAt startOf (paymentsOf a)) (accepted-reading file x) ∙ begun) in
+          record {
+            ahead = s .0;
+            bytes = s .1;
+            found = found-as n ∙ ap (λ o. fromStart o (length file)) (start-there p firstPayment ps n is);
+            text = λ w t e. located w ∙ ap (λ o. ifText o (startOf + placeOf w)) e;
+            text-bytes = λ w t e. text-stands b w t e .bytes;
+            no-text = λ w e. located w ∙ ap (λ o. ifText o (startOf + placeOf w)) e;
+          }
+
+-- ---- when something is found
+
+pub nineteen : _≡_ {A = ℕ} 19 0 → ⊥
+nineteen e = omega arith
+
+module _ (file : List ℕ) where
+  -- payment n: exactly in acceptable files that have it
+  pub finds-exactly : (n : ℕ) → (findAt file n .verdict .number ≡ 0) ↔ ((x : Acceptable file) × (q : ℕ) × (getElem? (starts (x .0 .payments)) n ≡ some q))
+  unfolding findAt finding
+  finds-exactly n = (λ z. let x = by (answer file) refl z in begun x _ refl z, λ y. ap (λ (p : Spot). p .verdict .number) (found-as file (y .0) n ∙ ap (λ o. fromStart o (length file)) (y .2)))
+    where
+      by : (a : Answer Name Document) → answer file ≡ a → finding a n (length file) .verdict .number ≡ 0 → Acceptable file
+      by (accepted d) i z = accepted-exactly file .0 (d, i)
+      by (refused r) i z = zero-exactly file .0 (ap (λ a. outcome a .verdict .number) i ∙ z)
+
+      begun : (x : Acceptable file) (o : Option ℕ) → getElem? (starts (x .0 .payments)) n ≡ o → findAt file n .verdict .number ≡ 0
+          → (x : Acceptable file) × (q : ℕ) × (getElem? (starts (x .0 .payments)) n ≡ some q)
+      begun x none e z = absurd (nineteen (sym (ap (λ (p : Spot). p .verdict .number) (found-as file x n ∙ ap (λ o. fromStart o (length file)) e)) ∙ z))
+      begun x (some q) e z = (x, q, e)
+
+  -- a text: exactly in those where payment n, for some n, begins there and has it
+  pub record TextThere (start : ℕ) (w : Wanted) : Type 0 where
+    pub acceptable : Acceptable file
+    pub n : ℕ
+    pub payment : Payment
+    pub text : List ℕ
+    pub is : getElem? (acceptable .0 .payments) n ≡ some payment
+    pub begins : getElem? (starts (acceptable .0 .payments)) n ≡ some start
+    pub has : textOf w payment ≡ some text
+
+  pub locates-exactly : (start : ℕ) (w : Wanted) → (locateAt file start w .verdict .number ≡ 0) ↔ TextThere start w
+  unfolding locateAt locating begunAt
+  locates-exactly start w = (
+    λ z. let x = by (answer file) refl z in begun x _ refl z,
+    λ y. let b = begun-at-start firstPayment (y .acceptable .0 .payments) (y .n) start (y .payment) (y .begins) (y .is) in ap (λ (p : Spot). p .verdict .number) (as-begun (y .acceptable) b ∙ ap (λ o. ifText o (start + placeOf w)) (y .has)),
+  )
+    where
+      by : (a : Answer Name Document) → answer file ≡ a → locating a start w .verdict .number ≡ 0 → Acceptable file
+      by (accepted d) i z = accepted-exactly file .0 (d, i)
+      by (refused r) i z = zero-exactly file .0 (ap (λ a. outcome a .verdict .number) i ∙ z)
+
+      as-begun : (x : Acceptable file) {o : Option Payment} → begunAt start (x .0 .payments) ≡ o → locateAt file start w ≡ ifBegun o start w
+      as-begun x e = located-as file x start w ∙ ap (λ o. ifBegun o start w) e
+
+      there : (x : Acceptable file) (p : Payment) → begunAt start (x .0 .payments) ≡ some p → (o : Option (List ℕ)) → textOf w p ≡ o
+          → locateAt file start w .verdict .number ≡ 0 → TextThere start w
+      there x p b none e z = absurd (nineteen (sym (ap (λ (p : Spot). p .verdict .number) (as-begun x b ∙ ap (λ o. ifText o (start + placeOf w)) e)) ∙ z))
+      there x p b (some t) e z =
+          let i = start-begun firstPayment (x .0 .payments) start p b in
+          record { acceptable = x; n = i .0; payment = p; text = t; is = i .2; begins = i .1; has = e }
+
+      begun : (x : Acceptable file) (o : Option Payment) → begunAt start (x .0 .payments) ≡ o → locateAt file start w .verdict .number ≡ 0 → TextThere start w
+      begun x none e z = absurd (nineteen (sym (ap (λ (p : Spot). p .verdict .number) (as-begun x e)) ∙ z))
+      begun x (some p) e z = there x p e (textOf w p) refl z

@@ -1,0 +1,5 @@
+pub mod CellLaws
+pub mod StandLaws
+pub mod PaymentLaws
+pub mod StepLaws
+pub mod Promises

@@ -1,0 +1,50 @@
+-- line_reader::text_at meets its contract: a tab, and signs up to one that is no blank.
+-- Assumes nothing.
+use native.Mathlib.Omega.{arith}
+use Rattle.line_reader.proofs.SeenLaws.{text-seen}
+use borrow.Author.Needs.{needs}
+use Rattle.line_reader.proofs.text_at.Statement.{statement}
+use Rattle.line_reader.proofs.text_at.Tie as tie
+
+returns : tie.Need-returns
+returns c = search needs
+
+shared-slice-read-if2 : tie.Need-shared-slice-read-if2
+shared-slice-read-if2 c = search needs
+
+returns-2 : tie.Need-returns-2
+returns-2 c = search needs
+
+add-signs-end : tie.Need-add-signs-end
+add-signs-end c = search needs
+
+signs-end-requires : tie.Need-signs-end-requires
+signs-end-requires c κs = search needs
+
+sub-if3 : tie.Need-sub-if3
+sub-if3 c = search needs
+
+shared-slice-read-if3 : tie.Need-shared-slice-read-if3
+shared-slice-read-if3 c = search needs
+
+returns-3 : tie.Need-returns-3
+returns-3 c = search needs
+
+returns-4 : tie.Need-returns-4
+returns-4 c =
+    let a = c .before .before .before .before .before .before .before .args in
+    text-seen (a .l .now) (a .q) (c .before .before .signs-end .result) (omega arith) (c .before .before .before .if2 .left) (c .before .before .signs-end .ensures) (c .if3 .left)
+
+pub text-at-spec : {M : Type 1} → statement M
+text-at-spec =
+    tie.close
+    (tie.spec
+    returns
+    shared-slice-read-if2
+    returns-2
+    add-signs-end
+    signs-end-requires
+    sub-if3
+    shared-slice-read-if3
+    returns-3
+    returns-4)

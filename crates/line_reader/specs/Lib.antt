@@ -1,0 +1,3 @@
+pub mod Reaching
+pub mod Lines
+pub mod Told

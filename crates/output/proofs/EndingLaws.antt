@@ -1,0 +1,118 @@
+-- A call that writes: what its statement comes to, for every way in which it would end with room enough.
+-- Assumes nothing.
+use Prim.Native.Nat.{ℕ, _≤_, _<_}
+use native.Mathlib.Omega.{arith}
+use mathlib.Core.Path.{_≡_, refl, sym, ap, _∙_}
+use mathlib.Core.Logic.{_≢_}
+use mathlib.Core.Bool.{Bool, true, false}
+use mathlib.Core.List.{List}
+use lib.ListN.{length, take, drop}
+use lib.Seq.{take-at, drop-at}
+use lib.Dec.{leb}
+use borrow.Author.Tests.{leb-true, leb-false, le-leb, lt-leb}
+use Rattle.verdict.specs.declared.Verdict.{Verdict}
+use Rattle.verdict.specs.Verdicts.{accepting, refusing}
+use Rattle.verdict.specs.Lent.{filled}
+use Rattle.listing.specs.Endings.{Ending, writes, refuses, within, written}
+use Rattle.output.specs.declared.Written.{Written}
+use Rattle.output.specs.Writing.{writtenOf}
+
+-- ---- how an ending stands to the room that there is
+
+module _ (room : ℕ) {e : Ending} where
+  pub roomy : {bs : List ℕ} → e ≡ writes bs → length bs ≤ room → within room e ≡ writes bs
+  unfolding within
+  roomy {bs} i h = ap (within room) i ∙ rw (le-leb (length bs) room h)
+
+  pub too-short : {bs : List ℕ} → e ≡ writes bs → room < length bs → within room e ≡ refuses (refusing 16 0)
+  unfolding within
+  too-short {bs} i h = ap (within room) i ∙ rw (lt-leb (length bs) room h)
+
+  pub stays-refused : {v : Verdict} → e ≡ refuses v → within room e ≡ refuses v
+  unfolding within
+  stays-refused i = ap (within room) i
+
+-- what the call ensures of its result and of the output, which held `old`
+abbrev pub Says : Ending → List ℕ → Written → List ℕ → Type 0
+Says e old r new = (r ≡ writtenOf (within (length old) e)) × (new ≡ filled (written (within (length old) e)) old)
+
+-- ---- how the statement is met
+
+module _ (e : Ending) (old : List ℕ) where
+  as-it-ends : (x : Ending) → within (length old) e ≡ x → {r : Written} → r ≡ writtenOf x → {new : List ℕ} → new ≡ filled (written x) old → Says e old r new
+  as-it-ends x i g n = (g ∙ ap writtenOf (sym i), n ∙ ap (λ y. filled (written y) old) (sym i))
+
+  pub ends-refused : {v : Verdict} → e ≡ refuses v → {r : Written} → r ≡ writtenOf (refuses v) → Says e old r old
+  ends-refused {v} i g = as-it-ends (refuses v) (stays-refused (length old) i) g refl
+
+  module _ {bs : List ℕ} (i : e ≡ writes bs) where
+    pub ends-short : length old < length bs → {v : Verdict} → v ≡ refusing 16 0 → {r : Written} → r ≡ writtenOf (refuses v) → Says e old r old
+    ends-short h w g = as-it-ends (refuses (refusing 16 0)) (too-short (length old) i h) (g ∙ ap (λ v. writtenOf (refuses v)) w) refl
+
+    pub ends-written : length bs ≤ length old → {r : Written} → r ≡ writtenOf (writes bs) → {new : List ℕ} → new ≡ filled bs old → Says e old r new
+    ends-written h g n = as-it-ends (writes bs) (roomy (length old) i h) g n
+
+-- ---- what it comes to
+
+-- n bytes at the start of an output were written
+module _ (bs old : List ℕ) {n : ℕ} {new : List ℕ} (l : n ≡ length bs) (f : new ≡ filled bs old) where
+  pub filled-first : take n new ≡ bs
+  filled-first = ap (take n) f ∙ take-at bs (drop (length bs) old) n (sym l)
+
+  pub filled-behind : drop n new ≡ drop n old
+  filled-behind = ap (drop n) f ∙ drop-at bs (drop (length bs) old) n (sym l) ∙ ap (λ k. drop k old) (sym l)
+
+sixteen : _≡_ {A = ℕ} 0 16 → ⊥
+sixteen e = omega arith
+
+module _ (e : Ending) (old : List ℕ) where
+  -- it admits one answer
+  pub one-answer : (r s : Written) (a b : List ℕ) → Says e old r a → Says e old s b → (r ≡ s) × (a ≡ b)
+  one-answer r s a b d f = (d .0 ∙ sym (f .0), d .1 ∙ sym (f .1))
+
+  module _ (r : Written) (new : List ℕ) (says : Says e old r new) where
+    abbrev end : Ending
+    end = within (length old) e
+
+    -- a refused call leaves the output as it was
+    pub refused-untouched : r .verdict .number ≢ 0 → new ≡ old
+    refused-untouched n = by end refl
+      where
+        by : (x : Ending) → end ≡ x → new ≡ old
+        by (writes bs) i = absurd (n (ap (λ (w : Written). w .verdict .number) (says .0 ∙ ap writtenOf i)))
+        by (refuses v) i = says .1 ∙ ap (λ x. filled (written x) old) i
+
+    -- the length given is that of what was written
+    length-is : r .length ≡ length (written end)
+    length-is = ap (λ (w : Written). w .length) (says .0) ∙ by end
+      where
+        by : (x : Ending) → writtenOf x .length ≡ length (written x)
+        by (writes bs) = refl
+        by (refuses v) = refl
+
+    -- and the output past it is as it was
+    pub tail-is : drop (r .length) new ≡ drop (r .length) old
+    tail-is = filled-behind (written end) old length-is (says .1)
+
+    -- a refusal is given as it is
+    pub refused-as : {v : Verdict} → e ≡ refuses v → r ≡ record { verdict = v; length = 0 }
+    refused-as i = says .0 ∙ ap writtenOf (stays-refused (length old) i)
+
+    module _ {bs : List ℕ} (i : e ≡ writes bs) where
+      -- 16 at 0 where the output is too short
+      pub no-room-as : length old < length bs → r ≡ record { verdict = refusing 16 0; length = 0 }
+      no-room-as h = says .0 ∙ ap writtenOf (too-short (length old) i h)
+
+      pub has-room : r .verdict .number ≡ 0 → length bs ≤ length old
+      has-room z = by (leb (length bs) (length old)) refl
+        where
+          by : (b : Bool) → leb (length bs) (length old) ≡ b → length bs ≤ length old
+          by true j = leb-true (length bs) (length old) j
+          by false j = absurd (sixteen (sym z ∙ ap (λ (w : Written). w .verdict .number) (no-room-as (leb-false (length bs) (length old) j))))
+
+      -- else 0 at 0 with the length, and the output begins with the bytes
+      pub written-as : length bs ≤ length old → (r ≡ record { verdict = accepting; length = length bs }) × (take (r .length) new ≡ bs)
+      written-as h = (
+        says .0 ∙ ap writtenOf (roomy (length old) i h),
+        filled-first (written end) old length-is (says .1) ∙ ap written (roomy (length old) i h),
+      )

@@ -1,0 +1,4 @@
+pub mod OverLaws
+pub mod WritingLaws
+pub mod DigitLaws
+pub mod EndingLaws
