@@ -1,4 +1,5 @@
-// Checks, loads, lists and composes DTAUS files: the diskette form, euro, 2002.
+// Checks, loads, lists and composes DTAUS files, and finds their payments and texts: the diskette
+// form, euro, 2002.
 //
 // A file is one header A of 128 bytes, one or more payments C of 256 to 768 bytes, and one trailer
 // E of 128 bytes, with nothing between or behind them. Fields are named by record and number: C12

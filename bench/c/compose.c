@@ -20,7 +20,7 @@ static struct refusal check_header_line(const uint8_t *listing, const struct lin
     unsigned day;
     TOLD(a[1], file_kind(a[1].bytes, kind));
     TOLD(a[2], any_digits(a[2].bytes, 8));
-    TOLD(a[3], sender_bank(a[3].bytes, *kind));
+    TOLD(a[3], sending_bank(a[3].bytes, *kind));
     TOLD(a[4], text(a[4].bytes, a[4].width));
     TOLD(a[5], creation_day(a[5].bytes, &day));
     TOLD(a[6], any_digits(a[6].bytes, 10));

@@ -14,7 +14,7 @@ struct refusal check_header(const uint8_t *a, size_t have, struct kind *kind) {
     FIELD(A2, 1, fixed(a + A2, "A", 1));
     FIELD(A3, 2, file_kind(a + A3, kind));
     FIELD(A4, 8, any_digits(a + A4, 8));
-    FIELD(A5, 8, sender_bank(a + A5, *kind));
+    FIELD(A5, 8, sending_bank(a + A5, *kind));
     FIELD(A6, TEXT, text(a + A6, TEXT));
     FIELD(A7, 6, creation_day(a + A7, &day));
     FIELD(A8, 4, blanks(a + A8, 4));

@@ -1,4 +1,4 @@
-// The fields of the header that have a meaning of their own: the kind of file, the sender's bank,
+// The fields of the header that have a meaning of their own: the kind of file, the sending bank,
 // and the two days.
 #include "rules.h"
 
@@ -10,7 +10,7 @@ enum number file_kind(const uint8_t *a3, struct kind *kind) {
 }
 
 // Zero in a customer's file.
-enum number sender_bank(const uint8_t *a5, struct kind kind) {
+enum number sending_bank(const uint8_t *a5, struct kind kind) {
     uint64_t code;
     if (digits(a5, 8, &code) != ACCEPTED)
         return NO_DIGIT;

@@ -66,7 +66,8 @@ enum { SECTION = 128, TEXT = 27, MARK = 2, PART = MARK + TEXT };
 
 enum { MOST_PARTS = 15 };
 
-// The bytes of a payment with so many parts: its second section takes two, the later ones four.
+// The bytes of a payment with so many parts: its second section takes two, the third to fifth four
+// each, the sixth one.
 static inline size_t payment_bytes(unsigned parts) {
     return parts <= 2 ? 2 * SECTION : SECTION * (3 + (parts - 3) / 4);
 }

@@ -29,7 +29,7 @@ struct marks {
 };
 
 enum number file_kind(const uint8_t *a3, struct kind *kind);
-enum number sender_bank(const uint8_t *a5, struct kind kind);
+enum number sending_bank(const uint8_t *a5, struct kind kind);
 enum number creation_day(const uint8_t *a7, unsigned *day);
 enum number execution_day(const uint8_t *a11b, unsigned creation_day);
 

@@ -25,7 +25,7 @@ static uint64_t digits(const struct bytes *file, size_t place, size_t width) {
     return number;
 }
 
-// The second section takes 2 parts, each later one 4.
+// The second section takes 2 parts, the third to fifth 4 each, the sixth 1.
 static size_t bytes_of(uint64_t parts) {
     size_t bytes = 2 * SECTION;
     for (uint64_t room = 2; room < parts; room += 4)

@@ -12,7 +12,7 @@ COLUMNS = 4
 # One in so many damaged inputs is also sent to the calls that are meant for the other form.
 OTHER_FORM = 8
 # Turns a random byte into a digit.
-DIGITS = bytes(48 + byte % 10 for byte in range(256))
+DIGITS = bytes(ord("0") + byte % 10 for byte in range(256))
 
 Room = Callable[[Random, int], tuple[int, ...]]
 

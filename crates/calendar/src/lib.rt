@@ -4,7 +4,7 @@ ghost use mathlib.Core.Bool.{_&&_};
 ghost use lib.Dec.{leb};
 ghost use Prim.Native.Nat.{_-_, _%_, _^_};
 ghost use Rattle.document.specs.Calendar.{leap, monthDays, isDay, yearsDays, monthsDays, dayNumber, inSpan, century, ofDDMMYY, ofDDMMYYYY};
-ghost use Rattle.calendar.specs.Days.{dayOf};
+ghost use Rattle.calendar.specs.Days.{dayOf, dayFrom};
 
 // A day as the code holds it: narrow numbers, so that counting its days cannot wrap.
 pub struct Day {
@@ -13,7 +13,7 @@ pub struct Day {
     pub year: u16,
 }
 
-pub fn is_leap(year: u16) -> bool
+fn is_leap(year: u16) -> bool
     ensures { λ r. ⌜ r ≡ leap year ⌝ }
 {
     if year % 4 != 0 {
@@ -25,7 +25,7 @@ pub fn is_leap(year: u16) -> bool
     year % 400 == 0
 }
 
-pub fn month_days(year: u16, month: u8) -> u64
+fn month_days(year: u16, month: u8) -> u64
     ensures { λ r. ⌜ r ≡ monthDays year month ⌝ }
 {
     match month {
@@ -71,7 +71,7 @@ fn years_days(years: u16) -> u64
 }
 
 // The days of the months from 1 to `months`.
-pub fn months_days(year: u16, months: u8) -> u64
+fn months_days(year: u16, months: u8) -> u64
     ensures { λ r. ⌜ r ≡ monthsDays year months ⌝ }
 {
     let mut days: u64 = 0;
@@ -94,7 +94,7 @@ fn one_less(n: u16) -> u16
 }
 
 // 1 for the first day of the year 1, and one more each day.
-pub fn day_number(d: Day) -> u64
+fn day_number(d: Day) -> u64
     ensures { λ r. ⌜ r ≡ dayNumber (dayOf d) ⌝ }
 {
     let years = years_days(one_less(d.year));
@@ -123,7 +123,7 @@ fn full_year(n: u64) -> u16
 
 // The day that the last six digits of n name.
 pub fn of_ddmmyy(n: u64) -> Day
-    ensures { λ r. ⌜ dayOf r ≡ ofDDMMYY (n % 10 ^ 6) ⌝ }
+    ensures { λ r. ⌜ r ≡ dayFrom (ofDDMMYY (n % 10 ^ 6)) ⌝ }
 {
     let date = n % 1_000_000;
     Day {
@@ -135,7 +135,7 @@ pub fn of_ddmmyy(n: u64) -> Day
 
 // The day that the last eight digits of n name.
 pub fn of_ddmmyyyy(n: u64) -> Day
-    ensures { λ r. ⌜ dayOf r ≡ ofDDMMYYYY (n % 10 ^ 8) ⌝ }
+    ensures { λ r. ⌜ r ≡ dayFrom (ofDDMMYYYY (n % 10 ^ 8)) ⌝ }
 {
     let date = n % 100_000_000;
     Day {

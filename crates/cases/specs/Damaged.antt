@@ -1,4 +1,4 @@
--- Files damaged at every field: the whole refusal, with its reason, place, width and the field's name. One list, one claim.
+-- Files damaged at every field: the whole refusal, with its reason, place, width and the field's name. Three lists, one claim.
 use Prim.Native.Nat.{ℕ}
 use Prim.Native.String.{String}
 use mathlib.Core.Path.{_≡_, refl}

@@ -1,3 +1,6 @@
 pub mod Starred
 pub mod Others
 pub mod Damaged
+pub mod Met
+pub mod Listings
+pub mod ListingLimits

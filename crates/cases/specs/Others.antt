@@ -13,10 +13,11 @@ abbrev pub times : ℕ → List ℕ → List ℕ
 times zero bs = []
 times (suc n) bs = bs ++ times n bs
 
--- M's payment with 14 parts, all 02
+-- a part with mark 02
 abbrev pub purpose : List ℕ
 purpose = ascii "02" ++ padded "KUNDE 4"
 
+-- M's payment with 14 parts, all 02
 abbrev pub fourteen : List ℕ
 fourteen =
     inTurn (

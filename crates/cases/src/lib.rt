@@ -1,1 +1,1 @@
-// The worked cases of the requirements: the crate holds lists of files with their answers, proved by computing, and no code.
+// The worked cases: of the requirements, of files damaged at every field, and of listings, with their answers, proved by computing. No code.

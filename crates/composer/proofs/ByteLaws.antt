@@ -1,6 +1,5 @@
 -- A line byte by byte: its tabs part its fields, it begins with a letter and a tab, a field may end in a blank; and the rest of a line of a listing, where the fields
 -- so far and those from there on make up all fields.
--- Assumes nothing.
 use Prim.Native.Nat.{ℕ, suc, _+_, _-_, _≤_, _<_, zero}
 use native.Mathlib.Omega.{arith}
 use native.Mathlib.Decide.{decLt}

@@ -1,5 +1,4 @@
 -- A call of `compose`, once the listing has been read: its refusal, or what was told of the document that it is the listing of.
--- Assumes nothing.
 use Prim.Native.Nat.{ℕ, _+_, _^_, _≤_, _<_}
 use native.Mathlib.Omega.{arith}
 use mathlib.Core.Path.{_≡_, refl, sym, ap, ap₂, _∙_}

@@ -1,5 +1,4 @@
 -- The file of a listing that was accepted: A, the payments and E, written one after another.
--- Assumes nothing.
 use Prim.Native.Nat.{ℕ, _+_, _-_, _*_, _≤_, _<_}
 use native.Mathlib.Omega.{arith}
 use native.Mathlib.Nat.{zero-add}

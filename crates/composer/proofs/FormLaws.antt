@@ -1,5 +1,4 @@
 -- The fields of a line one by one: whether the line has its form, and where the field of a place of its record stands.
--- Assumes nothing.
 use Prim.Native.Nat.{ℕ, zero, suc, _+_, _-_, _≤_, _<_}
 use native.Mathlib.Numerals.{add-one}
 use native.Mathlib.Omega.{arith}

@@ -1,5 +1,4 @@
 -- A line as the code hears it: its form, then the record that it stands for, and the place of a refused field in it.
--- Assumes nothing.
 use Prim.Native.Nat.{ℕ, suc, _+_, _≤_}
 use native.Mathlib.Omega.{arith}
 use mathlib.Core.Path.{_≡_, refl, sym, ap, _∙_}

@@ -1,5 +1,4 @@
 -- A record while its line's fields are put in, one after another: each puts its bytes where the record was blank.
--- Assumes nothing.
 use Prim.Native.Nat.{ℕ, zero, suc, _+_, _≤_}
 use native.Mathlib.Omega.{arith}
 use mathlib.Core.Path.{_≡_, refl, sym, ap, _∙_, subst}
@@ -24,7 +23,6 @@ Fills w bs t = (rest : List ℕ) → over 0 bs (blanks w ++ rest) ≡ pad w t ++
 pub fills-padded : (w : ℕ) (t : List ℕ) → Fills w (pad w t) t
 fills-padded w t rest = over-here (blanks w) (pad w t) rest (length-replicate {A = ℕ} w 0x20 ∙ sym (pad-length w t))
 
--- so does the field itself
 blanks-first : (w v : ℕ) → w ≤ v → take w (blanks v) ≡ blanks w
 blanks-first zero v h = refl
 blanks-first (suc w) zero h = absurd (omega arith)
@@ -35,6 +33,7 @@ blanks-behind w v [] rest h g = ap (λ (l : List ℕ). l ++ rest) (sym (blanks-f
 blanks-behind zero v (b ∷ t) rest h g = absurd (omega arith)
 blanks-behind (suc w) v (b ∷ t) rest h g = ap (λ (l : List ℕ). b ∷ l) (blanks-behind w v t rest (omega arith) (omega arith))
 
+-- so does the field itself
 pub fills-itself : (w : ℕ) (t : List ℕ) → length t ≤ w → Fills w t t
 fills-itself w t h rest = over-first t (blanks w ++ rest) ∙ blanks-behind w w t rest h (omega arith)
 

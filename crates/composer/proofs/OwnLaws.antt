@@ -1,5 +1,4 @@
 -- What A and C have of their own, and all of E: written into blanks one after another, it makes the record that no field has been put into yet, and E.
--- Assumes nothing.
 use Prim.Native.Nat.{ℕ, _*_, _%_, _^_, _≤_, suc, _<_}
 use native.Mathlib.Omega.{arith}
 use native.Mathlib.Nat.{mod-eq-of-lt}

@@ -1,14 +1,17 @@
 -- What the statement of `compose` comes to: it admits one answer; a refused call leaves the output as it was; after any other, the output begins with
 -- the one file whose listing was given, and is behind it as it was. The listing of an accepted file gives that file back.
--- Assumes nothing.
 use Prim.Native.Nat.{ℕ, _≤_, _<_}
 use mathlib.Core.Path.{_≡_, refl, sym, ap, subst, _∙_}
 use mathlib.Core.Logic.{_↔_, _≢_}
-use mathlib.Core.List.{List}
+use mathlib.Core.List.{List, _∷_}
 use lib.ListN.{length, take, drop}
+use lib.Dec.{T}
+use Rattle.form.specs.Kind.{oneOf}
 use Rattle.form.specs.Reader.{accepted}
+use Rattle.form.proofs.NumberLaws.{one-within}
 use Rattle.verdict.specs.declared.Verdict.{Verdict}
 use Rattle.verdict.specs.Verdicts.{accepting, refusing}
+use Rattle.verdict.specs.Numbers.{ofListing, ofCompose}
 use Rattle.document.specs.Values.{Document}
 use Rattle.document.specs.Rules.{Legal}
 use Rattle.diskette.specs.Writing.{write, Acceptable}
@@ -16,7 +19,7 @@ use Rattle.diskette.specs.Answer.{answer}
 use Rattle.listing.specs.Listing.{listing}
 use Rattle.listing.specs.Composing.{Composed, made, denied, compose}
 use Rattle.listing.specs.Endings.{composed}
-use Rattle.listing.proofs.NumberLaws.{never-zero}
+use Rattle.listing.proofs.NumberLaws.{number-listed as listing-number, never-zero}
 use Rattle.listing.proofs.Promises.{listing-composes, composes-exactly, listing-round}
 use Rattle.output.specs.declared.Written.{Written}
 use Rattle.output.proofs.EndingLaws as endings
@@ -26,11 +29,24 @@ use Rattle.composer.proofs.CallLaws.{made-ends, denied-ends}
 abbrev pub Says : List ℕ → List ℕ → Written → List ℕ → Type 0
 Says l old r new = endings.Says (composed (compose l)) old r new
 
+-- a listing is refused with a number of composing
+pub composed-number : (l : List ℕ) → endings.RefusedWith (0 ∷ ofCompose) (composed (compose l))
+unfolding composed
+composed-number l = by (compose l) refl
+  where
+    by : (c : Composed Document) → compose l ≡ c → endings.RefusedWith (0 ∷ ofCompose) (composed c)
+    by (made d) e = tt
+    by (denied v) e = one-within ofListing (0 ∷ ofCompose) (v .number) tt (listing-number l v e)
+
 module _ (l old : List ℕ) where
   pub one-answer : (r s : Written) (a b : List ℕ) → Says l old r a → Says l old s b → (r ≡ s) × (a ≡ b)
   one-answer = endings.one-answer (composed (compose l)) old
 
   module _ (r : Written) (new : List ℕ) (says : Says l old r new) where
+    -- the number is 0 or one of those of composing
+    pub number-listed : T (oneOf (0 ∷ ofCompose) (r .verdict .number))
+    number-listed = endings.number-listed (composed (compose l)) old r new says (0 ∷ ofCompose) tt tt (composed-number l)
+
     -- a refused call leaves the output as it was
     pub refused-untouched : r .verdict .number ≢ 0 → new ≡ old
     refused-untouched = endings.refused-untouched (composed (compose l)) old r new says

@@ -1,5 +1,4 @@
 -- One turn of the loop that puts a line's fields into a record: the next field of the line, put where it stands in the record.
--- Assumes nothing.
 use Prim.Native.Nat.{ℕ, suc, _+_, _-_, _≤_, _<_}
 use native.Mathlib.Numerals.{add-one}
 use native.Mathlib.Omega.{arith}

@@ -1,5 +1,4 @@
 -- The lines of payments as the loop over them goes: where it stands, what it owes, and how a line takes it on or ends it.
--- Assumes nothing.
 use Prim.Native.Nat.{ℕ, _+_, _-_, _*_, _≤_, _<_}
 use native.Mathlib.Omega.{arith}
 use native.Mathlib.Nat.{add-assoc, add-zero}

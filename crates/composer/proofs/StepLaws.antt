@@ -1,26 +1,26 @@
--- One line after another: where the line at a place of the listing ends, what follows it, and that one read in one walk tells what composing makes of it.
--- Assumes nothing.
+-- One line after another: where the line at a place of the listing ends, what follows it, and that a payment seen in one walk is told as by its
+-- record.
 use Prim.Native.Nat.{ℕ, suc, _+_, _-_, _^_, _≤_, _<_}
 use native.Mathlib.Omega.{arith}
 use native.Mathlib.Decide.{decLe}
-use mathlib.Core.Path.{_≡_, refl, ap, ap₂, _∙_, sym}
+use mathlib.Core.Path.{_≡_, refl, ap, _∙_}
 use mathlib.Core.Logic.{_≢_}
 use mathlib.Core.Bool.{false}
-use mathlib.Core.List.{List, [], _∷_, _++_}
-use lib.ListN.{length, take, drop, length-drop, length-append}
-use lib.Seq.{length-take-le, take-all, take-at}
+use mathlib.Core.List.{List, [], _∷_}
+use lib.ListN.{length, take, drop, length-drop}
+use lib.Seq.{length-take-le, take-all}
 use Rattle.document.specs.Values.{Payment, Totals, adding}
-use Rattle.listing.specs.Lines.{tab, lineEnd, split, empty, behindTabs}
-use Rattle.listing.specs.Composing.{Composed, made, andThen, composePayment, composePayments}
-use Rattle.listing.proofs.LineLaws.{split-some, fields-parted, line-ended, line-parted}
+use Rattle.fields.proofs.AnswerLaws.{zero-one}
+use Rattle.listing.specs.Lines.{tab, lineEnd, split, empty}
+use Rattle.listing.specs.Composing.{Composed, made, denied, andThen, composePayment, composePayments}
+use Rattle.listing.proofs.LineLaws.{split-some}
 use Rattle.listing.proofs.LinesLaws.{payments-step}
 use Rattle.line_reader.specs.Reaching.{reach}
-use Rattle.line_reader.proofs.ReachLaws.{reach-le, pieces-more, pieces-last, split-more, split-last}
-use Rattle.document.specs.Signs.{ascii}
+use Rattle.line_reader.proofs.ReachLaws.{reach-le, pieces-more, pieces-last}
+use Rattle.line_reader.specs.declared.LineSeen.the-variants as seen
+use Rattle.line_reader.specs.Told.{paymentSeen, lineSeen}
+use Rattle.line_reader.proofs.ToldLaws.{first-line}
 use Rattle.sums.specs.declared.Sums.{Sums}
-use Rattle.listing.specs.Listing.{paymentFields}
-use Rattle.listing.proofs.PaymentLaws.{payment-clear, payment-heard}
-use Rattle.line_reader.specs.Told.{LineOf}
 use Rattle.composer.specs.Telling.{paymentTold, LineTold}
 use Rattle.composer.specs.declared.LaidPayment.the-variants as laid
 use Rattle.composer.specs.declared.LineRead.the-variants as one
@@ -55,74 +55,64 @@ module _ (l : List ℕ) (p e : ℕ) (inside : p ≤ length l) (ends : e ≡ p + 
     pub line-within : e < length l
     line-within = let h = line-inside in omega (arith, more)
 
+    -- the line, and the lines behind it
+    lines : split lineEnd (drop p l) ≡ lineTo l p e ∷ split lineEnd (drop (e + 1) l)
+    lines =
+        let i = line-inside in
+        let w = line-within in
+        let n : p + suc (e - p) ≡ e + 1 = omega arith in
+        pieces-more lineEnd l p (e - p) far (omega arith) ∙ ap (λ m. lineTo l p e ∷ split lineEnd (drop m l)) n
+
+    behind : p + suc (length (lineTo l p e)) ≡ e + 1
+    behind =
+        let i = line-inside in
+        let long : length (lineTo l p e) ≡ e - p = length-take-le (e - p) (drop p l) (omega (arith, length-drop p l)) in
+        omega arith
+
     module _ (letters : List ℕ) (t : Totals) where
-      -- what follows the line of a payment; the next line's place is m in the listing, and n in its bytes
-      abbrev following : ℕ → ℕ → Payment → Composed (List Payment)
-      following m n q = andThen (composePayments letters (adding t q) m (split lineEnd (drop n l))) (λ qs. made (q ∷ qs))
+      -- what follows the line of a payment, whose place is m
+      abbrev following : ℕ → Payment → Composed (List Payment)
+      following m q = andThen (composePayments letters (adding t q) m (split lineEnd (drop (e + 1) l))) (λ qs. made (q ∷ qs))
 
       abbrev pub onward : Composed Payment → Composed (List Payment)
-      onward c = andThen c (following (e + 1) (e + 1))
+      onward c = andThen c (following (e + 1))
 
       abbrev pub here : Composed Payment
       here = composePayment letters t p (split tab (lineTo l p e))
 
       pub step : composePayments letters t p (split lineEnd (drop p l)) ≡ onward here
       step =
-          let i = line-inside in
-          let w = line-within in
-          let long : length (lineTo l p e) ≡ e - p = length-take-le (e - p) (drop p l) (omega (arith, length-drop p l)) in
-          let a : p + suc (length (lineTo l p e)) ≡ e + 1 = omega arith in
-          let b : p + suc (e - p) ≡ e + 1 = omega arith in
-          ap (composePayments letters t p) (pieces-more lineEnd l p (e - p) far (omega arith))
-          ∙ payments-step letters t p (lineTo l p e) (split lineEnd (drop (p + suc (e - p)) l)) (split-some lineEnd (drop (p + suc (e - p)) l))
-          ∙ ap₂ (λ m n. andThen here (following m n)) a b
+          ap (composePayments letters t p) lines
+          ∙ payments-step letters t p (lineTo l p e) (split lineEnd (drop (e + 1) l)) (split-some lineEnd (drop (e + 1) l))
+          ∙ ap (λ m. andThen here (following m)) behind
 
--- a first piece ends where the sign stands
-first-ends : (z : ℕ) (bs x rest : List ℕ) → split z bs ≡ x ∷ split z rest → bs ≡ x ++ (z ∷ rest) → reach z bs ≡ length x
-first-ends z bs x rest parted line = by (decLe (suc (reach z bs)) (length bs))
+      -- what is seen of the line in one walk
+      seen-here : (sums : Sums) → lineSeen letters t sums p (split lineEnd (drop p l)) ≡ paymentSeen sums (e + 1) here
+      seen-here sums =
+          ap (lineSeen letters t sums p) lines
+          ∙ first-line letters t sums p (lineTo l p e) (split lineEnd (drop (e + 1) l)) (split-some lineEnd (drop (e + 1) l))
+          ∙ ap (λ m. paymentSeen sums m here) behind
+
+-- a payment that was seen, as it is told
+told-so : (sums : Sums) (n : ℕ) (c : Composed Payment) {new : Sums} {bytes next : ℕ} → seen.Is new bytes next ≡ paymentSeen sums n c
+    → (laid.Is new bytes ≡ paymentTold sums c) × (next ≡ n)
+told-so sums n (made q) i = (cc, cc)
+told-so sums n (denied v) i = absurd (zero-one cc)
+
+-- a line of which a payment was seen is ended, and is told as by its record
+pub seen-told : (l : List ℕ) (p : ℕ) (letters : List ℕ) (t : Totals) (sums : Sums) {new : Sums} {bytes next : ℕ} → p ≤ length l
+    → seen.Is new bytes next ≡ lineSeen letters t sums p (split lineEnd (drop p l)) → LineTold l p letters t sums (one.Is new bytes next)
+unfolding lineSeen
+seen-told l p letters t sums {new} {bytes} {next} inside is = by (decLe (length l) e)
   where
-    by : Dec (suc (reach z bs) ≤ length bs) → reach z bs ≡ length x
+    e : ℕ
+    e = p + reach lineEnd (drop p l)
+
+    by : Dec (length l ≤ e) → LineTold l p letters t sums (one.Is new bytes next)
     by (yes h) =
-        let s = split-more z bs h in
-        let first : take (reach z bs) bs ≡ x = cc in
-        sym (length-take-le (reach z bs) bs (omega arith)) ∙ ap length first
+        let last = last-piece l p e inside refl (omega (arith, line-inside l p e inside refl)) in
+        absurd (zero-one (let i = is ∙ ap (lineSeen letters t sums p) last in cc))
     by (no h) =
-        let last = split-last z bs (omega (arith, reach-le z bs)) in
-        let all : bs ≡ x = cc in
-        absurd (omega (arith, ap length all, ap length line, length-append x (z ∷ rest)))
-
-module _ {l : List ℕ} {p : ℕ} {letters : List ℕ} {t : Totals} {sums new : Sums} {bytes next : ℕ} (line : LineOf l p letters t sums new bytes next) where
-  abbrev fields : List (List ℕ)
-  fields = paymentFields (line .payment)
-
-  -- the line without its end
-  abbrev front : List ℕ
-  front = ascii "C" ++ behindTabs fields
-
-  stands : drop p l ≡ front ++ (lineEnd ∷ drop next l)
-  stands = line .line ∙ line-ended (ascii "C") fields (drop next l)
-
-  pub seen-told : p ≤ length l → LineTold l p letters t sums (one.Is new bytes next)
-  seen-told h =
-      let legal = payment-heard letters t p (ascii "C" ∷ fields) (line .payment) (line .composed) .good .legal in
-      let clear = payment-clear letters (line .payment) legal in
-      let parted = ap (split lineEnd) (line .line) ∙ line-parted (ascii "C") fields (drop next l) (tt, clear.1) in
-      let far = first-ends lineEnd (drop p l) front (drop next l) parted stands in
-      let long = ap length stands ∙ length-append front (lineEnd ∷ drop next l) in
-      let inside = line .inside in
-      let a = length-drop p l in
-      let b = length-drop next l in
-      let e = p + length front in
-      let n : e - p ≡ length front = omega arith in
-      let here : take (e - p) (drop p l) ≡ front = ap (take (e - p)) stands ∙ take-at front (lineEnd ∷ drop next l) (e - p) (sym n) in
-      let parts : split tab (take (e - p) (drop p l)) ≡ ascii "C" ∷ fields = ap (split tab) here ∙ fields-parted (ascii "C") fields (tt, clear.0) in (
-        e,
-        record {
-          ends = ap (λ m. p + m) (sym far);
-          more = λ i. omega (arith, i);
-          told =
-              ap₂ laid.Is (line .added) (line .size)
-              ∙ sym (ap (paymentTold sums) (ap (composePayment letters t p) parts ∙ line .composed));
-        },
-        omega arith,
-      )
+        let more : e ≢ length l = λ i. omega (arith, i) in
+        let told = told-so sums (e + 1) (here l p e inside refl more letters t) (is ∙ seen-here l p e inside refl more letters t sums) in
+        (e, record { ends = refl; more = more; told = told.0 }, told.1)

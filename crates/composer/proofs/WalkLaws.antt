@@ -1,5 +1,4 @@
 -- The walk from field to field of a line: where the first field stands, where a field ends, and where the next one begins.
--- Assumes nothing.
 use Prim.Native.Nat.{ℕ, zero, suc, _+_, _-_, _≤_, _<_}
 use native.Mathlib.Decide.{decLt}
 use native.Mathlib.Omega.{arith}

@@ -1,5 +1,4 @@
 -- How wide the fields of a line of its form are: none is wider than in the record, and the numbers with which a payment's line begins are as wide.
--- Assumes nothing.
 use Prim.Native.Nat.{ℕ, zero, suc, _+_, _-_, _≤_, _<_}
 use native.Mathlib.Numerals.{add-one}
 use native.Mathlib.Omega.{arith}

@@ -11,7 +11,7 @@ use Rattle.form.proofs.FilledLaws.{look-digits, look-maybe}
 use Rattle.document.specs.Calendar.{ofDDMMYY, ofDDMMYYYY}
 use Rattle.diskette.specs.Fields.{executionOf}
 use Rattle.calendar.specs.declared.Day.{Day}
-use Rattle.calendar.specs.Days.{dayOf}
+use Rattle.calendar.specs.Days.{dayOf, dayFrom}
 use Rattle.fields.specs.Answers.{ofField}
 use Rattle.fields.proofs.WalkLaws.{Told, stands}
 use Rattle.fields.proofs.AnswerLaws.{zero-one}
@@ -20,7 +20,7 @@ use Rattle.dates.specs.declared.DayRead.{DayRead}
 use Rattle.dates.specs.declared.DayRead.the-variants as day
 use Rattle.dates.specs.declared.ExecutionRead.{ExecutionRead}
 use Rattle.dates.specs.declared.ExecutionRead.the-variants as execution
-use Rattle.dates.specs.Dates.{dayFrom, days, dayWhy, executionIn, executions, executionWhy}
+use Rattle.dates.specs.Dates.{days, dayWhy, executionIn, executions, executionWhy}
 
 -- ---- the two days
 
@@ -47,8 +47,8 @@ module _ {a : ExecutionRead} (p n : ℕ) (l : Look (Option ℕ)) (told : a ≡ o
 -- ---- the day that a number read in so many digits names
 
 module _ (f : List ℕ) (p v : ℕ) {d : Day} where
-  pub names-made : lookAt (digits 6) f p ≡ has v → dayOf d ≡ ofDDMMYY (v % 10 ^ 6) → dayOf d ≡ ofDDMMYY v
-  names-made e named = named ∙ ap ofDDMMYY (mod-eq-of-lt (look-digits 6 f p v e))
+  pub names-made : lookAt (digits 6) f p ≡ has v → d ≡ dayFrom (ofDDMMYY (v % 10 ^ 6)) → dayOf d ≡ ofDDMMYY v
+  names-made e named = ap dayOf named ∙ ap ofDDMMYY (mod-eq-of-lt (look-digits 6 f p v e))
 
-  pub names-execution : lookAt (maybe 8) f p ≡ has (some v) → dayOf d ≡ ofDDMMYYYY (v % 10 ^ 8) → dayOf d ≡ ofDDMMYYYY v
-  names-execution e named = named ∙ ap ofDDMMYYYY (mod-eq-of-lt (look-maybe 8 f p v e))
+  pub names-execution : lookAt (maybe 8) f p ≡ has (some v) → d ≡ dayFrom (ofDDMMYYYY (v % 10 ^ 8)) → dayOf d ≡ ofDDMMYYYY v
+  names-execution e named = ap dayOf named ∙ ap ofDDMMYYYY (mod-eq-of-lt (look-maybe 8 f p v e))

@@ -4,7 +4,7 @@ use mathlib.Core.Option.{Option, none, some}
 use Rattle.document.specs.Calendar.{ofDDMMYY}
 use Rattle.document.specs.Calendar as document
 use Rattle.diskette.specs.Fields.{executionOf}
-use Rattle.calendar.specs.declared.Day.{Day}
+use Rattle.calendar.specs.Days.{dayFrom}
 use Rattle.fields.specs.declared.Refusal.{Refusal}
 use Rattle.fields.specs.Answers.{refusalOf, Telling}
 use Rattle.dates.specs.declared.Execution.{Execution}
@@ -13,10 +13,6 @@ use Rattle.dates.specs.declared.DayRead.{DayRead}
 use Rattle.dates.specs.declared.DayRead.the-variants as day
 use Rattle.dates.specs.declared.ExecutionRead.{ExecutionRead}
 use Rattle.dates.specs.declared.ExecutionRead.the-variants as execution
-
--- the day of the code that a day of the rules is
-abbrev pub dayFrom : document.Day → Day
-dayFrom d = record { day = d .day; month = d .month; year = d .year }
 
 abbrev pub days : Telling ℕ DayRead
 days = record { gives = λ n q. day.Is (dayFrom (ofDDMMYY n)) q; refuses = day.Refused }

@@ -74,7 +74,7 @@ payment-begins t k h n c =
 pub end-some : (t : Totals) (l : ℕ) → l ≡ 128 → Holds (firstField t l) → 1 ≤ t .count
 end-some t l e h = leb→le 1 (t .count) (or-first (leb 1 (t .count)) (rw e at (h .0)))
 
--- where no C may begin, E does
+-- after the most payments there are, only E may begin
 pub must-end : (t : Totals) (l : ℕ) → mostPayments ≤ t .count → Holds (firstField t l) → l ≡ 128
 must-end t l m h = by (ltb (t .count) mostPayments) (λ b. omega (arith, m, ltb→lt (t .count) mostPayments b)) (h .1 .0)
   where

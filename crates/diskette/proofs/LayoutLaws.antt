@@ -41,7 +41,7 @@ unfolding through toSectionEnd below
 closed i h = eqb→eq (through i + toSectionEnd i) (128 * section i) (below-all (λ i. eqb (through i + toSectionEnd i) (128 * section i)) 16 i tt h)
 
 parts-length : (i : ℕ) (ps : List Part) → i + length ps ≤ 15 → All (λ (q : Part). Text (q .words)) ps → through i + length (writeParts i ps) ≡ 128 * section (i + length ps)
-parts-length i [] h a = let e : i + 0 ≡ i = omega arith in rw (e, length-replicate {A = ℕ} (toSectionEnd i) 32) (closed i (omega arith))
+parts-length i [] h a = let e : i + 0 ≡ i = omega arith in rw (e, length-replicate {A = ℕ} (toSectionEnd i) 0x20) (closed i (omega arith))
 parts-length i (q ∷ qs) h a =
     let e : i + suc (length qs) ≡ suc i + length qs = omega arith in
     let s = parts-length (suc i) qs (omega arith) a.1 in

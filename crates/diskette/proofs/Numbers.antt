@@ -1,50 +1,46 @@
--- The numbers that the diskette form's rules give are 5 to 14: none is taken for acceptance, for a file that ends early, or for bytes after E.
-use Prim.Native.Nat.{ℕ, zero, suc, _≤_}
-use native.Mathlib.Omega.{arith}
+-- Which numbers the diskette form gives: its rules give 5 to 14, each record its own, so that a refused file has one of the numbers of a file.
+use Prim.Native.Nat.{ℕ, zero, suc}
 use mathlib.Core.Path.{_≡_, refl}
 use mathlib.Core.Option.{Option, none, some}
-use mathlib.Core.Bool.{Bool, _&&_}
-use mathlib.Core.List.{List}
-use lib.Dec.{leb, eqb, leb→le}
+use mathlib.Core.List.{List, [], _∷_, _++_}
+use lib.Dec.{T, eqb}
+use Rattle.form.specs.Kind.{oneOf}
 use Rattle.form.specs.Form.{Form}
 use Rattle.form.specs.Reader.{Reason, short, not-fixed, not-digit, not-sign, breaks, surplus, Refusal, refused, run}
-use Rattle.form.proofs.BoolLaws.{and-both}
 use Rattle.form.proofs.RulesLaws.{_▸_}
-use Rattle.form.proofs.NumberLaws.{NumberedRules, Numbered, numbered-bind, numbered-fork, number-given}
+use Rattle.form.proofs.NumberLaws.{one-within, NumberedRules, Numbered, numbered-bind, numbered-fork, numbered-within, number-given}
+use Rattle.verdict.specs.Verdicts.{numberOf}
+use Rattle.verdict.specs.Numbers.{ofFile}
 use Rattle.document.specs.Calendar.{Day}
 use Rattle.document.specs.Values.{Totals, noTotals, adding}
 use Rattle.document.specs.Rules.{mostPayments}
-use Rattle.diskette.specs.Writing.{section, toSectionEnd, toNextPart}
 use Rattle.document.specs.Marks.{roomAfter}
+use Rattle.diskette.specs.Writing.{section, toSectionEnd, toNextPart}
 use Rattle.diskette.specs.Fields.{Name, executionOf, executionRules, header, closingBlanks, parts, payment, end, payments, behindHeader, document}
-use Rattle.verdict.specs.Verdicts.{numberOf}
 
-abbrev pub ofRule : ℕ → Bool
-ofRule n = leb 5 n && leb n 14
+-- ---- the rules of each record
 
--- by such rules a refusal has a number from 1 to 15
-pub refusal-number : {A : Type 0} (m : Form Name A) (f : List ℕ) (r : Refusal Name) → Numbered ofRule m → run m f ≡ refused r
-    → (1 ≤ numberOf (r .reason)) × (numberOf (r .reason) ≤ 15)
-unfolding numberOf
-refusal-number m f r h e = by (r .reason) refl
-  where
-    by : (z : Reason) → r .reason ≡ z → (1 ≤ numberOf z) × (numberOf z ≤ 15)
-    by short i = (omega arith, omega arith)
-    by not-fixed i = (omega arith, omega arith)
-    by not-digit i = (omega arith, omega arith)
-    by not-sign i = (omega arith, omega arith)
-    by (breaks n) i =
-        let b = and-both (leb 5 n) (leb n 14) (number-given ofRule m f r h e n i) in
-        let from = leb→le 5 n b.0 in
-        let to = leb→le n 14 b.1 in
-        (omega arith, omega arith)
-    by surplus i = (omega arith, omega arith)
+abbrev pub ofHeader : List ℕ
+ofHeader = 10 ∷ 11 ∷ []
 
-execution-numbers : (made : Day) (n : Option ℕ) → NumberedRules ofRule (executionRules made (executionOf n))
+-- of the first field after A or a C
+abbrev pub ofFirst : List ℕ
+ofFirst = 5 ∷ 6 ∷ 9 ∷ []
+
+abbrev pub ofPayment : List ℕ
+ofPayment = 7 ∷ 8 ∷ 9 ∷ 11 ∷ 12 ∷ 13 ∷ []
+
+abbrev ofEnd : List ℕ
+ofEnd = 14 ∷ []
+
+abbrev pub ofRules : List ℕ
+ofRules = ofHeader ++ (ofFirst ++ (ofPayment ++ ofEnd))
+
+execution-numbers : (made : Day) (n : Option ℕ) → NumberedRules (oneOf ofHeader) (executionRules made (executionOf n))
 execution-numbers made none = tt
 execution-numbers made (some n) = (tt, (tt, tt))
 
-pub header-numbers : Numbered ofRule header
+pub header-numbers : Numbered (oneOf ofHeader) header
 header-numbers =
     λ v.
     tt ▸ λ v.
@@ -62,18 +58,18 @@ header-numbers =
     tt ▸ λ v.
     tt ▸ tt
 
-closing-numbers : (s n : ℕ) → Numbered ofRule (closingBlanks s n)
+closing-numbers : (s n : ℕ) → Numbered (oneOf ofPayment) (closingBlanks s n)
 closing-numbers s zero = tt
 closing-numbers s (suc n) = λ v. tt ▸ tt
 
-parts-numbers : (left i room : ℕ) → Numbered ofRule (parts left i room)
+parts-numbers : (left i room : ℕ) → Numbered (oneOf ofPayment) (parts left i room)
 unfolding parts
-parts-numbers zero i room = numbered-bind ofRule (closingBlanks (section i) (toSectionEnd i)) _ (closing-numbers (section i) (toSectionEnd i)) (λ u. tt)
+parts-numbers zero i room = numbered-bind (oneOf ofPayment) (closingBlanks (section i) (toSectionEnd i)) _ (closing-numbers (section i) (toSectionEnd i)) (λ u. tt)
 parts-numbers (suc left) i room =
-    numbered-bind ofRule (closingBlanks (section i) (toNextPart i)) _ (closing-numbers (section i) (toNextPart i)) (λ u.
-    λ m. (tt, (tt, tt)) ▸ λ t. tt ▸ numbered-bind ofRule (parts left (suc i) (roomAfter m room)) _ (parts-numbers left (suc i) (roomAfter m room)) (λ ps. tt))
+    numbered-bind (oneOf ofPayment) (closingBlanks (section i) (toNextPart i)) _ (closing-numbers (section i) (toNextPart i)) (λ u.
+    λ m. (tt, (tt, tt)) ▸ λ t. tt ▸ numbered-bind (oneOf ofPayment) (parts left (suc i) (roomAfter m room)) _ (parts-numbers left (suc i) (roomAfter m room)) (λ ps. tt))
 
-pub payment-numbers : (kind : List ℕ) (t : Totals) (l : ℕ) → Numbered ofRule (payment kind t l)
+pub payment-numbers : (kind : List ℕ) (t : Totals) (l : ℕ) → Numbered (oneOf ofPayment) (payment kind t l)
 payment-numbers kind t l =
     λ v.
     tt ▸ λ v.
@@ -95,9 +91,9 @@ payment-numbers kind t l =
     tt ▸ λ v.
     tt ▸ λ v.
     tt ▸ λ v.
-    (tt, tt) ▸ numbered-bind ofRule (parts v 0 15) _ (parts-numbers v 0 15) (λ ps. tt)
+    (tt, tt) ▸ numbered-bind (oneOf ofPayment) (parts v 0 15) _ (parts-numbers v 0 15) (λ ps. tt)
 
-end-numbers : (t : Totals) → Numbered ofRule (end t)
+end-numbers : (t : Totals) → Numbered (oneOf ofEnd) (end t)
 end-numbers t =
     λ v.
     tt ▸ λ v.
@@ -109,18 +105,33 @@ end-numbers t =
     (tt, tt) ▸ λ v.
     tt ▸ tt
 
-payments-numbers : (left : ℕ) (kind : List ℕ) (t : Totals) → Numbered ofRule (payments left kind t)
+-- ---- all records
+
+payments-numbers : (left : ℕ) (kind : List ℕ) (t : Totals) → Numbered (oneOf ofRules) (payments left kind t)
 unfolding payments
-payments-numbers zero kind t = λ l. (tt, (tt, (tt, tt))) ▸ end-numbers t
+payments-numbers zero kind t = λ l. (tt, (tt, (tt, tt))) ▸ numbered-within ofEnd ofRules tt (end t) (end-numbers t)
 payments-numbers (suc left) kind t =
     λ l.
     (tt, (tt, (tt, tt))) ▸
-    numbered-fork ofRule (eqb l 128) (end t) _ (end-numbers t)
-    (numbered-bind ofRule (payment kind t l) _ (payment-numbers kind t l) (λ p.
-    numbered-bind ofRule (payments left kind (adding t p)) _ (payments-numbers left kind (adding t p)) (λ ps. tt)))
+    numbered-fork (oneOf ofRules) (eqb l 128) (end t) _ (numbered-within ofEnd ofRules tt (end t) (end-numbers t))
+    (numbered-bind (oneOf ofRules) (payment kind t l) _ (numbered-within ofPayment ofRules tt (payment kind t l) (payment-numbers kind t l)) (λ p.
+    numbered-bind (oneOf ofRules) (payments left kind (adding t p)) _ (payments-numbers left kind (adding t p)) (λ ps. tt)))
 
-pub document-numbers : Numbered ofRule document
+document-numbers : Numbered (oneOf ofRules) document
 unfolding document
 document-numbers =
-    numbered-bind ofRule header behindHeader header-numbers (λ h.
-    numbered-bind ofRule (payments mostPayments (h .fileKind) noTotals) _ (payments-numbers mostPayments (h .fileKind) noTotals) (λ ps. tt))
+    numbered-bind (oneOf ofRules) header behindHeader (numbered-within ofHeader ofRules tt header header-numbers) (λ h.
+    numbered-bind (oneOf ofRules) (payments mostPayments (h .fileKind) noTotals) _ (payments-numbers mostPayments (h .fileKind) noTotals) (λ ps. tt))
+
+-- a refused file has one of the numbers of a file
+pub file-number : (f : List ℕ) (r : Refusal Name) → run document f ≡ refused r → T (oneOf ofFile (numberOf (r .reason)))
+unfolding numberOf
+file-number f r e = by (r .reason) refl
+  where
+    by : (z : Reason) → r .reason ≡ z → T (oneOf ofFile (numberOf z))
+    by short i = tt
+    by not-fixed i = tt
+    by not-digit i = tt
+    by not-sign i = tt
+    by (breaks n) i = one-within ofRules ofFile n tt (number-given (oneOf ofRules) document f r document-numbers e n i)
+    by surplus i = tt

@@ -8,11 +8,11 @@ use mathlib.Core.Bool.{Bool, true, false, _&&_, _||_, not}
 use mathlib.Core.List.{List}
 use lib.ListN.{replicate}
 use lib.Dec.{T, leb, ltb, eqb, leb→le, ltb→lt, le→leb, lt→ltb, eqb→eq, eqb-refl}
-use Rattle.form.specs.Kind.{digits}
+use Rattle.form.specs.Kind.{digits, oneOf}
 use Rattle.form.specs.Form.{Content, _>>=_, value, Viable}
 use Rattle.form.proofs.BoolLaws.{and-both, or-other, or-right}
 use Rattle.form.proofs.RulesLaws.{_▸_, ok, viable-bind, viable-fork, then-viable}
-use Rattle.document.specs.Signs.{ascii, oneOf}
+use Rattle.document.specs.Signs.{ascii}
 use Rattle.document.specs.Calendar.{isDay, ofDDMMYY, monthDays}
 use Rattle.document.specs.Values.{Header, Totals, noTotals, adding}
 use Rattle.document.specs.Rules.{mostPayments, mostCents, endsInK, beginsWithG, keys, keyOk}

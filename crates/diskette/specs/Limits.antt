@@ -1,4 +1,4 @@
--- What is given at the limits, which no file of a moderate size comes near: a C or an E read after payments that come to given totals.
+-- What is given at the limits, without a file that reaches them: a C read after payments that come to given totals.
 use Prim.Native.Nat.{ℕ, _-_}
 use mathlib.Core.Path.{_≡_, refl}
 use mathlib.Core.List.{List, [], _∷_, map}

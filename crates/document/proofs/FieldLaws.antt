@@ -7,10 +7,10 @@ use mathlib.Core.Bool.{Bool, true, false, _&&_}
 use mathlib.Core.List.{List, [], _∷_}
 use lib.ListN.{length}
 use lib.Dec.{T, ltb, eqb, eqb→eq}
-use Rattle.form.specs.Kind.{every, one, same, among}
+use Rattle.form.specs.Kind.{every, one, same, among, oneOf}
 use Rattle.form.proofs.BoolLaws.{and-both, and-of, or-cases}
 use Rattle.form.proofs.KindLaws.{same-eq}
-use Rattle.document.specs.Signs.{oneOf, sign}
+use Rattle.document.specs.Signs.{sign}
 use Rattle.document.specs.Rules.{Text, fileKinds, notZero, keys, keyOk, beginsWithG}
 
 -- ---- texts

@@ -50,7 +50,7 @@ examples =
     ∷ no (keyOk (ascii "GB") 5)
     ∷ yes (every (keyOk (ascii "LK")) (4 ∷ 5 ∷ []))
     ∷ no (keyOk (ascii "LK") 51)
-    -- days: of November, of a century's end, of the last year; the century's pivot; the span
+    -- days: of November, of a century's end, of the year 0, of the last year; the century's pivot; the span
     ∷ yes (isDay (on 30 11 2004))
     ∷ no (isDay (on 31 11 2004))
     ∷ yes (isDay (on 29 2 2000))

@@ -6,8 +6,8 @@ use mathlib.Core.Bool.{Bool, _&&_, _||_, not, cond}
 use mathlib.Core.List.{List, [], _∷_, map}
 use lib.ListN.{length, take, drop}
 use lib.Dec.{T, eqb}
-use Rattle.form.specs.Kind.{every, same, among}
-use Rattle.document.specs.Signs.{ascii, oneOf, sign, notAllBlank}
+use Rattle.form.specs.Kind.{every, same, among, oneOf}
+use Rattle.document.specs.Signs.{ascii, sign, notAllBlank}
 use Rattle.document.specs.Calendar.{Day, isDay, OnOrSoonAfter, century}
 use Rattle.document.specs.Values.{Header, Part, Payment, Document, totals}
 

@@ -1,4 +1,4 @@
--- The bytes of the diskette's code: quoted words, zeros, and the signs that a text may hold.
+-- Signs as bytes: quoted words, zeros, and the signs that a text may hold.
 use Prim.Native.Nat.{ℕ}
 use Prim.Native.Char.{code}
 use Prim.Native.String.{String}
@@ -6,7 +6,7 @@ use mathlib.Core.Bool.{Bool, _&&_, _||_, not}
 use mathlib.Core.List.{List, [], _∷_}
 use lib.ListN.{replicate}
 use lib.Dec.{leb, eqb}
-use Rattle.form.specs.Kind.{every, one, digit}
+use Rattle.form.specs.Kind.{every, oneOf, digit}
 
 -- the bytes of a quoted word
 abbrev pub ascii : String → List ℕ
@@ -16,14 +16,10 @@ ascii (String._∷_ c s) = code c ∷ ascii s
 abbrev pub zeros : ℕ → List ℕ
 zeros n = replicate n 0x30
 
--- a number, or a byte, is one of these
-abbrev pub oneOf : List ℕ → ℕ → Bool
-oneOf xs b = one (λ x. eqb b x) xs
-
 abbrev pub capital : ℕ → Bool
 capital b = leb 0x41 b && leb b 0x5A
 
--- blank, full stop, comma, and, hyphen, stroke, plus, star, dollar, per cent
+-- blank, full stop, comma, and, hyphen, slash, plus, star, dollar, per cent
 abbrev pub specialSigns : List ℕ
 specialSigns = 0x20 ∷ 0x2E ∷ 0x2C ∷ 0x26 ∷ 0x2D ∷ 0x2F ∷ 0x2B ∷ 0x2A ∷ 0x24 ∷ 0x25 ∷ []
 

@@ -1,4 +1,4 @@
--- What a file says: one header, its payments, and what they come to. Numbers are numbers, days are days, texts are rows of permitted signs.
+-- What a file says: one header, its payments, and what they come to. Numbers are numbers, days are days, texts are rows of bytes.
 use Prim.Native.Nat.{ℕ, _+_}
 use mathlib.Core.List.{List, [], _∷_}
 use mathlib.Core.Option.{Option}

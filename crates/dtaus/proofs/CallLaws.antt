@@ -1,5 +1,4 @@
 -- How the calls come to their ends: a result without room is refused ahead of all else, and any other gets the figures of the call beneath.
--- Assumes nothing.
 use Prim.Native.Nat.{ℕ, _≤_, _<_}
 use mathlib.Core.Path.{_≡_, refl, sym, ap, subst, _∙_}
 use mathlib.Core.List.{List, [], _∷_}

@@ -1,4 +1,5 @@
 pub mod TellingLaws
 pub mod NamingLaws
 pub mod CallLaws
+pub mod Numbers
 pub mod Promises

@@ -1,6 +1,5 @@
 -- What the statements of the six calls come to: each admits one answer; a result without room is 16, and nothing is written; else the result begins
 -- with the figures and is behind them as it was, and the statement is that of the call beneath, with all that follows from it.
--- Assumes nothing.
 use Prim.Native.Nat.{ℕ, _≤_, _<_}
 use mathlib.Core.Path.{_≡_, refl, sym, ap, _∙_}
 use mathlib.Core.Logic.{_≢_}

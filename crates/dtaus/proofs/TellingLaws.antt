@@ -1,5 +1,4 @@
 -- Figures stored one by one into a result: it holds them afterwards, and behind them what it held before.
--- Assumes nothing.
 use Prim.Native.Nat.{ℕ, _≤_, _<_}
 use native.Mathlib.Omega.{arith}
 use mathlib.Core.Path.{_≡_, refl, sym, ap}

@@ -1,5 +1,5 @@
 // The library for C: each call on numbers and lent slices alone. A slice is a pointer and then the number of its entries. What a call finds it tells
-// in a lent slice of numbers, the result; the number that it returns is the result's first.
+// in a lent slice of numbers, the result; the number that it returns is the result's first, or 16 where the result is too short.
 ghost use mathlib.Core.Path.{_≡_};
 ghost use Prim.Native.Nat.{_≤_};
 ghost use mathlib.Core.List.{[], _∷_};

@@ -1,4 +1,5 @@
-// The call that a request asks for: one function for each, which reads what is lent beside the input, makes the call and prints its answer.
+// The call that a request asks for: a function for each, and one for the two that write, which reads what is lent beside the input, makes the call and
+// prints its answer.
 use crate::printing;
 use crate::requests::HEAD;
 use crate::requests::head_number;

@@ -19,7 +19,7 @@ use Rattle.fields.specs.Stretches.{digitsOf}
 use Rattle.fields.proofs.AnswerLaws.{zero-one}
 
 -- one digit more
-number-more : (bs : List ℕ) (b : ℕ) → number (bs ++ (b ∷ [])) ≡ number bs * 10 + (b - 48)
+number-more : (bs : List ℕ) (b : ℕ) → number (bs ++ (b ∷ [])) ≡ number bs * 10 + (b - 0x30)
 unfolding number
 number-more [] b = rw (pow-zero 10) (omega arith)
 number-more (x ∷ xs) b =
@@ -50,18 +50,18 @@ unfolding number
 spelt-none f = record { inside = omega arith; value = refl; digits = tt; below = omega arith }
 
 -- d is what is left of the byte b without the digit 0, in a byte's arithmetic
-module _ (b d : ℕ) (small : d < 256) (wraps : (d + 48) % 256 ≡ b) where
-  digit-left : d ≤ 9 → (48 ≤ b) × (b ≤ 57) × (b - 48 ≡ d)
+module _ (b d : ℕ) (small : d < 256) (wraps : (d + 0x30) % 256 ≡ b) where
+  digit-left : d ≤ 9 → (0x30 ≤ b) × (b ≤ 0x39) × (b - 0x30 ≡ d)
   digit-left h = (omega arith, omega arith, omega arith)
 
   pub no-digit : 9 < d → digit b ≡ false
-  no-digit h = by (leb 48 b) refl
+  no-digit h = by (leb 0x30 b) refl
     where
-      by : (x : Bool) → leb 48 b ≡ x → x && leb b 57 ≡ false
-      by true e = let l = leb-true 48 b e in lt-leb b 57 (omega arith)
+      by : (x : Bool) → leb 0x30 b ≡ x → x && leb b 0x39 ≡ false
+      by true e = let l = leb-true 0x30 b e in lt-leb b 0x39 (omega arith)
       by false e = refl
 
-module _ (f : List ℕ) (i v d : ℕ) (s : Spelt f i v) (more : i < length f) (small : d < 256) (wraps : (d + 48) % 256 ≡ getD f i 0) where
+module _ (f : List ℕ) (i v d : ℕ) (s : Spelt f i v) (more : i < length f) (small : d < 256) (wraps : (d + 0x30) % 256 ≡ getD f i 0) where
   pub spelt-more : d ≤ 9 → Spelt f (i + 1) (v * 10 + d)
   spelt-more h =
       let b = getD f i 0 in
@@ -69,7 +69,7 @@ module _ (f : List ℕ) (i v d : ℕ) (s : Spelt f i v) (more : i < length f) (s
       record {
         inside = omega arith;
         value = rw (add-one i, take-suc f i 0 more, number-more (take i f) b, ← s .value, l .2);
-        digits = rw (add-one i, take-suc f i 0 more) (every-more digit (take i f) b (s .digits) (and-of (leb 48 b) (leb b 57) (le→leb 48 b l.0) (le→leb b 57 l.1)));
+        digits = rw (add-one i, take-suc f i 0 more) (every-more digit (take i f) b (s .digits) (and-of (leb 0x30 b) (leb b 0x39) (le→leb 0x30 b l.0) (le→leb b 0x39 l.1)));
         below = rw (add-one i, pow-suc 10 i) (omega (arith, s .below));
       }
 

@@ -66,7 +66,6 @@ module _ (s : List ℕ) (p w : ℕ) (e : leb (p + w) (length s) ≡ true) where
   pub field-length : length (take w (drop p s)) ≡ w
   field-length = let h = ends-inside in length-take-le w (drop p s) (simp length-drop (omega arith))
 
--- so many bytes b
 pub eqb-turn : (a b : ℕ) → eqb a b ≡ eqb b a
 eqb-turn a b = by (eqb b a) refl
   where
@@ -78,6 +77,7 @@ same-fill : (b : ℕ) (f : List ℕ) → same (replicate (length f) b) f ≡ eve
 same-fill b [] = refl
 same-fill b (x ∷ xs) = rw (eqb-turn b x, same-fill b xs)
 
+-- so many bytes b, and blanks or a number
 pub judge-fill : (b w : ℕ) (f : List ℕ) → length f ≡ w → judge (fixed (replicate w b)) f ≡ ifSo (every (λ x. eqb x b) f) tt not-fixed
 unfolding judge
 judge-fill b w f l = rw (← l, same-fill b f)

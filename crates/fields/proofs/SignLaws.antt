@@ -11,7 +11,7 @@ use Rattle.document.specs.Signs.{sign}
 -- as the code tests them
 abbrev pub ranges : ℕ → Bool
 ranges b =
-    (((eqb b 32 || (leb 36 b && leb b 38)) || (leb 42 b && leb b 57)) || (leb 65 b && leb b 93)) || eqb b 126
+    (((eqb b 0x20 || (leb 0x24 b && leb b 0x26)) || (leb 0x2A b && leb b 0x39)) || (leb 0x41 b && leb b 0x5D)) || eqb b 0x7E
 
 abbrev alike : Bool → Bool → Bool
 alike true b = b

@@ -15,7 +15,7 @@ use layout::width;
 pub mod fixed;
 pub mod refusals;
 
-// Why a file is refused: the number, and the first byte of the field.
+// Why a file or a listing is refused: the number and the place.
 pub struct Refusal {
     pub number: u8,
     pub place: usize,

@@ -1,4 +1,4 @@
-// The numbers that a refusal gives back; 0 is no refusal.
+// The numbers of refusals, but 20, which the programs alone give; 0 is no refusal.
 
 // The file ends before the field is whole.
 pub const SHORT: u8 = 1;
@@ -45,7 +45,7 @@ pub const NOT_COUNTED: u8 = 14;
 // Bytes follow E.
 pub const SURPLUS: u8 = 15;
 
-// The file is accepted, but a lent column or output is too short.
+// The input is accepted, but a lent column or output is too short; or, called from C, the result is.
 pub const NO_ROOM: u8 = 16;
 
 // A line of a listing has not its form.

@@ -1,5 +1,4 @@
 -- Payments that stand in a file one after another: where each begins, which begins at a start, and which texts it has.
--- Assumes nothing.
 use Prim.Native.Nat.{ℕ, zero, suc, _+_, _≤_, _<_}
 use native.Mathlib.Omega.{arith}
 use mathlib.Core.Path.{_≡_, refl, sym, ap, subst, _∙_}
@@ -45,7 +44,7 @@ module _ (start p : ℕ) (x : Payment) (xs : List Payment) where
   pub begun-later : (p ≡ start → ⊥) → begunFrom start p (x ∷ xs) ≡ begunFrom start (p + length (writePayment x)) xs
   begun-later n = ap (λ b. cond b (some x) (begunFrom start (p + length (writePayment x)) xs)) (ne-eqb p start n)
 
--- payment i begins at its start, and no other does
+-- the payment that begins at the start of payment i is payment i
 pub begun-at-start : (p : ℕ) (ps : List Payment) (i q : ℕ) (x : Payment) → getElem? (startsFrom p ps) i ≡ some q → getElem? ps i ≡ some x
     → begunFrom q p ps ≡ some x
 begun-at-start p [] i q x s e = absurd (Option·none-ne-some x e)

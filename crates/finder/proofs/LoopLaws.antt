@@ -1,5 +1,4 @@
 -- The two loops over the payments of an accepted file: what they keep, and what they have found when they end.
--- Assumes nothing.
 use Prim.Native.Nat.{ℕ, suc, _+_, _≤_, _<_}
 use native.Mathlib.Nat.{zero-add}
 use native.Mathlib.Omega.{arith}

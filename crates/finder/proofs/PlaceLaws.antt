@@ -1,5 +1,4 @@
 -- Where the text of a part stands: behind its mark, which is where the layout has it.
--- Assumes nothing.
 use Prim.Native.Nat.{ℕ, suc, _-_, _≤_}
 use native.Mathlib.Omega.{arith}
 use mathlib.Core.Path.{_≡_, refl, ap, _∙_}

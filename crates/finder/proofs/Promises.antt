@@ -1,20 +1,24 @@
 -- What `find` and `locate` come to, for every file: one that is not acceptable is refused as the check refuses it; what is not there is 19 at 0;
 -- and payment n of an acceptable file is found, and so is each of its texts.
--- Assumes nothing.
 use Prim.Native.Nat.{ℕ, _+_, _≤_}
 use native.Mathlib.Omega.{arith}
-use mathlib.Core.Path.{_≡_, refl, sym, ap, _∙_}
+use mathlib.Core.Path.{_≡_, refl, sym, ap, subst, _∙_}
 use mathlib.Core.Logic.{_↔_, _≢_}
-use mathlib.Core.List.{List, _++_}
+use mathlib.Core.List.{List, _∷_, _++_}
 use mathlib.Core.Option.{Option, none, some}
 use lib.ListN.{length, take, drop, getElem?}
+use lib.Dec.{T}
+use Rattle.form.specs.Kind.{oneOf}
 use Rattle.form.specs.Reader.{Answer, accepted, refused}
+use Rattle.form.proofs.NumberLaws.{one-within}
+use Rattle.verdict.specs.Numbers.{ofFile, ofView}
 use Rattle.document.specs.Values.{Payment, Document}
 use Rattle.diskette.specs.Writing.{writeHeader, writePayment, writePayments, Acceptable}
 use Rattle.diskette.specs.Fields.{Name}
 use Rattle.diskette.specs.Answer.{answer, outcome, paymentsOf}
 use Rattle.diskette.proofs.LayoutLaws.{header-length}
-use Rattle.diskette.proofs.Promises.{zero-exactly, accepted-exactly, accepted-reading}
+use Rattle.diskette.proofs.Promises.{RefusedFile, else-refused, zero-exactly, accepted-exactly, accepted-reading}
+use Rattle.diskette.proofs.Promises as form
 use Rattle.layout.specs.Steps.{firstPayment}
 use Rattle.layout.proofs.CellLaws.{beyond}
 use Rattle.loader.specs.Columns.{starts}
@@ -27,26 +31,66 @@ use Rattle.finder.specs.Spots.{nowhere, standing, noSuch, fromStart, fin
 use Rattle.finder.proofs.BegunLaws.{begun-at-start, start-begun, none-at, begun-there}
 use Rattle.finder.proofs.TextLaws.{text-stands}
 
--- ---- one answer
-
-pub one-found : (file : List ℕ) (n : ℕ) (x y : Spot) → x ≡ findAt file n → y ≡ findAt file n → x ≡ y
-one-found file n x y e f = e ∙ sym f
-
-pub one-located : (file : List ℕ) (start : ℕ) (w : Wanted) (x y : Spot) → x ≡ locateAt file start w → y ≡ locateAt file start w → x ≡ y
-one-located file start w x y e f = e ∙ sym f
-
 -- ---- where things stand
 
 module _ (file : List ℕ) where
   -- a file that is not acceptable is refused as the check refuses it, whatever is sought
-  pub refused-as-checked : ¬ Acceptable file → (n start : ℕ) (w : Wanted)
-      → (findAt file n ≡ nowhere (outcome (answer file) .verdict)) × (locateAt file start w ≡ nowhere (outcome (answer file) .verdict))
-  unfolding findAt finding locateAt locating
-  refused-as-checked not n start w = by (answer file) refl
+  pub find-as-checked : ¬ Acceptable file → (n : ℕ) → findAt file n ≡ nowhere (outcome (answer file) .verdict)
+  unfolding findAt finding
+  find-as-checked not n = by (answer file) refl
     where
-      by : (a : Answer Name Document) → answer file ≡ a → (finding a n (length file) ≡ nowhere (outcome a .verdict)) × (locating a start w ≡ nowhere (outcome a .verdict))
+      by : (a : Answer Name Document) → answer file ≡ a → finding a n (length file) ≡ nowhere (outcome a .verdict)
       by (accepted d) e = absurd (not (accepted-exactly file .0 (d, e)))
-      by (refused r) e = (refl, refl)
+      by (refused r) e = refl
+
+  pub locate-as-checked : ¬ Acceptable file → (start : ℕ) (w : Wanted) → locateAt file start w ≡ nowhere (outcome (answer file) .verdict)
+  unfolding locateAt locating
+  locate-as-checked not start w = by (answer file) refl
+    where
+      by : (a : Answer Name Document) → answer file ≡ a → locating a start w ≡ nowhere (outcome a .verdict)
+      by (accepted d) e = absurd (not (accepted-exactly file .0 (d, e)))
+      by (refused r) e = refl
+
+  -- with the number and the place of the field that is wrong
+  pub find-refused-file : ¬ Acceptable file → (n : ℕ) → RefusedFile file (findAt file n .verdict)
+  find-refused-file not n = subst (RefusedFile file) (sym (ap (λ (p : Spot). p .verdict) (find-as-checked not n))) (else-refused file not)
+
+  pub locate-refused-file : ¬ Acceptable file → (start : ℕ) (w : Wanted) → RefusedFile file (locateAt file start w .verdict)
+  locate-refused-file not start w = subst (RefusedFile file) (sym (ap (λ (p : Spot). p .verdict) (locate-as-checked not start w))) (else-refused file not)
+
+  -- the number is 0 or one of those of the view
+  of-file : (a : Answer Name Document) → answer file ≡ a → T (oneOf (0 ∷ ofView) (outcome a .verdict .number))
+  of-file a e =
+      one-within (0 ∷ ofFile) (0 ∷ ofView) (outcome a .verdict .number) tt
+      (subst (λ b. T (oneOf (0 ∷ ofFile) (outcome b .verdict .number))) e (form.number-listed file))
+
+  pub find-number : (n : ℕ) → T (oneOf (0 ∷ ofView) (findAt file n .verdict .number))
+  unfolding findAt finding
+  find-number n = by (answer file) refl
+    where
+      begun : (o : Option ℕ) → T (oneOf (0 ∷ ofView) (fromStart o (length file) .verdict .number))
+      begun none = tt
+      begun (some q) = tt
+
+      by : (a : Answer Name Document) → answer file ≡ a → T (oneOf (0 ∷ ofView) (finding a n (length file) .verdict .number))
+      by (accepted d) e = begun (getElem? (starts (d .payments)) n)
+      by (refused r) e = of-file (refused r) e
+
+  pub locate-number : (start : ℕ) (w : Wanted) → T (oneOf (0 ∷ ofView) (locateAt file start w .verdict .number))
+  unfolding locateAt locating
+  locate-number start w = by (answer file) refl
+    where
+      there : (o : Option (List ℕ)) → T (oneOf (0 ∷ ofView) (ifText o (start + placeOf w) .verdict .number))
+      there none = tt
+      there (some t) = tt
+
+      begun : (o : Option Payment) → T (oneOf (0 ∷ ofView) (ifBegun o start w .verdict .number))
+      begun none = tt
+      begun (some y) = there (textOf w y)
+
+      by : (a : Answer Name Document) → answer file ≡ a → T (oneOf (0 ∷ ofView) (locating a start w .verdict .number))
+      by (accepted d) e = begun (begunAt start (d .payments))
+      by (refused r) e = of-file (refused r) e
 
   -- a refusal has an empty stretch
   pub find-refuses : (n : ℕ) → findAt file n .verdict .number ≢ 0 → findAt file n ≡ nowhere (findAt file n .verdict)

@@ -1,5 +1,4 @@
 -- A payment or a text sought in a file, once the check has answered: the file's refusal, 19, or where it stands.
--- Assumes nothing.
 use Prim.Native.Nat.{ℕ, _+_, _≤_}
 use native.Mathlib.Omega.{arith}
 use mathlib.Core.Path.{_≡_, refl, sym, ap, _∙_}

@@ -1,5 +1,4 @@
 -- The texts of a payment that stands in a file, at their places.
--- Assumes nothing.
 use Prim.Native.Nat.{ℕ, zero, suc, _+_, _≤_, _<_}
 use native.Mathlib.Nat.{zero-add, add-zero}
 use native.Mathlib.Omega.{arith}
@@ -41,7 +40,7 @@ part-text : {f : List ℕ} {n : ℕ} (i : ℕ) (q : Part) (qs : List Part) → S
     → Stand f (n + toNextPart i + width.mark) (q .words ∷ writeParts (suc i) qs ∷ [])
 part-text i q qs s =
     let part = opened (blanks (toNextPart i) ∷ numeral width.mark (q .mark) ∷ q .words ∷ writeParts (suc i) qs ∷ []) s in
-    behind-first (behind-first part (length-replicate {A = ℕ} (toNextPart i) 32)) (numeral-length width.mark (q .mark))
+    behind-first (behind-first part (length-replicate {A = ℕ} (toNextPart i) 0x20)) (numeral-length width.mark (q .mark))
 
 -- from the end of C18 to the text of part 1
 first-place : place.parts + toNextPart 0 + width.mark ≡ placeOf (PartText 1)

@@ -1,4 +1,4 @@
--- Worked views: the payment of case M, one of three parts with a second payment behind it, and what is refused.
+-- Payments found and texts located: of case M, of a payment of three parts with a second one behind it, and what is refused.
 use Prim.Native.Nat.{ℕ, _-_}
 use mathlib.Core.Path.{_≡_, refl}
 use mathlib.Core.List.{List, [], _∷_, map}

@@ -34,11 +34,11 @@ power w = one-le-pow w 10 (omega arith)
 top : (w n : ℕ) → n < 10 ^ suc w → n / 10 ^ w < 10
 top w n h = div-lt-iff-lt-mul (power w) .1 (rw (pow-succ' 10 w) at h)
 
-digit-at : (b : ℕ) → T (digit b) → (48 ≤ b) × (b ≤ 57)
-digit-at b t = let c = and-both (leb 48 b) (leb b 57) t in (leb→le 48 b c.0, leb→le b 57 c.1)
+digit-at : (b : ℕ) → T (digit b) → (0x30 ≤ b) × (b ≤ 0x39)
+digit-at b t = let c = and-both (leb 0x30 b) (leb b 0x39) t in (leb→le 0x30 b c.0, leb→le b 0x39 c.1)
 
-digit-of : (d : ℕ) → d < 10 → T (digit (48 + d))
-digit-of d h = and-of (leb 48 (48 + d)) (leb (48 + d) 57) (omega (arith, le→leb)) (omega (arith, le→leb))
+digit-of : (d : ℕ) → d < 10 → T (digit (0x30 + d))
+digit-of d h = and-of (leb 0x30 (0x30 + d)) (leb (0x30 + d) 0x39) (omega (arith, le→leb)) (omega (arith, le→leb))
 
 pub numeral-length : (w n : ℕ) → length (numeral w n) ≡ w
 unfolding numeral
@@ -48,9 +48,9 @@ numeral-length (suc w) n = ap suc (numeral-length w (n % 10 ^ w))
 pub numeral-digits : (w n : ℕ) → n < 10 ^ w → T (every digit (numeral w n))
 unfolding numeral
 numeral-digits zero n h = tt
-numeral-digits (suc w) n h = and-of (digit (48 + n / 10 ^ w)) _ (digit-of (n / 10 ^ w) (top w n h)) (numeral-digits w (n % 10 ^ w) (mod-lt n (power w)))
+numeral-digits (suc w) n h = and-of (digit (0x30 + n / 10 ^ w)) _ (digit-of (n / 10 ^ w) (top w n h)) (numeral-digits w (n % 10 ^ w) (mod-lt n (power w)))
 
-first-back : (d : ℕ) → 48 + d - 48 ≡ d
+first-back : (d : ℕ) → 0x30 + d - 0x30 ≡ d
 first-back d = omega arith
 
 pub number-numeral : (w n : ℕ) → n < 10 ^ w → number (numeral w n) ≡ n
@@ -59,7 +59,7 @@ number-numeral zero n h = omega (arith, rw (pow-zero 10) at h)
 number-numeral (suc w) n h =
     rw (numeral-length w (n % 10 ^ w), number-numeral w (n % 10 ^ w) (mod-lt n (power w)), first-back (n / 10 ^ w)) (div-add-mod' n (10 ^ w))
 
-digit-below : (b : ℕ) → T (digit b) → b - 48 < 10
+digit-below : (b : ℕ) → T (digit b) → b - 0x30 < 10
 digit-below b t = omega (arith, digit-at b t)
 
 pub number-lt : (bs : List ℕ) → T (every digit bs) → number bs < 10 ^ length bs
@@ -70,7 +70,7 @@ number-lt (b ∷ bs) t =
     let i = number-lt bs h.1 in
     rw (pow-succ' 10 (length bs)) (omega (arith, i, mul-le-mul-right (10 ^ length bs) (digit-below b h.0)))
 
-digit-back : (b : ℕ) → T (digit b) → 48 + (b - 48) ≡ b
+digit-back : (b : ℕ) → T (digit b) → 0x30 + (b - 0x30) ≡ b
 digit-back b t = omega (arith, digit-at b t)
 
 pub numeral-number : (bs : List ℕ) → T (every digit bs) → numeral (length bs) (number bs) ≡ bs
@@ -80,7 +80,7 @@ numeral-number (b ∷ bs) t =
     let h = and-both (digit b) (every digit bs) t in
     let i = number-lt bs h.1 in
     rw (
-      mul-add-div-right (power (length bs)) (b - 48) (number bs),
+      mul-add-div-right (power (length bs)) (b - 0x30) (number bs),
       mul-add-mod-self-right,
       div-eq-of-lt i,
       mod-eq-of-lt i,
@@ -93,7 +93,7 @@ numeral-number (b ∷ bs) t =
 not-blank : (w n : ℕ) → 0 < w → same (blanks w) (numeral w n) ≡ false
 unfolding numeral
 not-blank zero n h = absurd (omega arith)
-not-blank (suc w) n h = rw (ne-eqb 32 (48 + n / 10 ^ w) (omega arith))
+not-blank (suc w) n h = rw (ne-eqb 0x20 (0x30 + n / 10 ^ w) (omega arith))
 
 -- what a test that lets pass says
 pub so : {X : Type 0} (b : Bool) (x y : X) (z : Reason) → ifSo b x z ≡ has y → T b × (x ≡ y)
@@ -110,7 +110,7 @@ empty (x ∷ xs) e = absurd (omega arith)
 pub spell-length : (κ : Kind) (v : Value κ) → T (fits κ v) → length (spell κ v) ≡ width κ
 spell-length (fixed bs) v t = refl
 spell-length (digits w) n t = numeral-length w n
-spell-length (maybe w) none t = length-replicate w 32
+spell-length (maybe w) none t = length-replicate w 0x20
 spell-length (maybe w) (some n) t = numeral-length w n
 spell-length (text sign w) s t = eqb→eq (length s) w (and-both (eqb (length s) w) (every sign s) t .0)
 spell-length (choice w words) v t = eqb→eq (length v) w (and-both (eqb (length v) w) (among words v) t .0)

@@ -6,5 +6,6 @@ pub mod ReaderLaws
 pub mod NumberLaws
 pub mod PlaceLaws
 pub mod FilledLaws
+pub mod WholeLaws
 pub mod RulesLaws
 pub mod Promises

@@ -1,17 +1,26 @@
 -- Which numbers a form gives: a rule that is broken is a rule of the form, so its number is one of the form's.
 use Prim.Native.Nat.{ℕ}
 use native.Mathlib.Omega.{arith}
-use mathlib.Core.Path.{_≡_, refl, sym, ap, _∙_}
+use mathlib.Core.Path.{_≡_, refl, sym, ap, subst, _∙_}
 use mathlib.Core.Bool.{Bool, true, false}
 use mathlib.Core.List.{List, [], _∷_}
 use mathlib.Core.Option.{some}
 use lib.ListN.{take, drop}
-use lib.Dec.{T}
-use Rattle.form.specs.Kind.{Kind, fixed, digits, maybe, text, choice, Value, width, every, same, among, digit, blanks}
+use lib.Dec.{T, eqb, eqb→eq}
+use mathlib.Core.Logic.{⊎-elim}
+use Rattle.form.specs.Kind.{Kind, fixed, digits, maybe, text, choice, Value, width, every, same, among, oneOf, digit, blanks}
 use Rattle.form.specs.Form.{Rule, rule, Form, ret, field, fork, _>>=_}
 use Rattle.form.specs.Reader.{Reason, short, not-fixed, not-digit, not-sign, breaks, surplus, Refusal, refused, Look, has, lacks, ifSo, number, optional, judge, obey, _then_, settle, run}
+use Rattle.form.proofs.BoolLaws.{and-both, or-cases}
 use Rattle.form.proofs.AnswerLaws.{has-or-lacks, accepted-or-refused, same-refusal}
 use Rattle.form.proofs.ReaderLaws.{cut, bad, good, meet, behind}
+
+-- a number of one list is a number of a longer one
+pub one-within : (xs ys : List ℕ) (n : ℕ) → T (every (oneOf ys) xs) → T (oneOf xs n) → T (oneOf ys n)
+one-within [] ys n w t = absurd t
+one-within (x ∷ xs) ys n w t =
+    let h = and-both (oneOf ys x) (every (oneOf ys) xs) w in
+    ⊎-elim (λ e. subst (λ m. T (oneOf ys m)) (sym (eqb→eq n x e)) (h .0)) (λ r. one-within xs ys n (h .1) r) (or-cases (eqb n x) (oneOf xs n) t)
 
 -- each rule has such a number
 abbrev pub NumberedRules : (ℕ → Bool) → List Rule → Type 0
@@ -27,6 +36,15 @@ pub numbered-bind : {N A B : Type 0} (p : ℕ → Bool) (m : Form N A) (k : A �
 numbered-bind p (ret a) k h i = i a
 numbered-bind p (field ν κ rs next) k h i = λ v. (h v .0, numbered-bind p (next v) k (h v .1) i)
 
+-- a form with numbers of one list has numbers of a longer one
+rules-within : (xs ys : List ℕ) → T (every (oneOf ys) xs) → (rs : List Rule) → NumberedRules (oneOf xs) rs → NumberedRules (oneOf ys) rs
+rules-within xs ys w [] h = tt
+rules-within xs ys w (rule n b ∷ rs) h = (one-within xs ys n w (h .0), rules-within xs ys w rs (h .1))
+
+pub numbered-within : {N A : Type 0} (xs ys : List ℕ) → T (every (oneOf ys) xs) → (m : Form N A) → Numbered (oneOf xs) m → Numbered (oneOf ys) m
+numbered-within xs ys w (ret a) h = tt
+numbered-within xs ys w (field ν κ rs next) h = λ v. (rules-within xs ys w (rs v) (h v .0), numbered-within xs ys w (next v) (h v .1))
+
 pub numbered-fork : {N A : Type 0} (p : ℕ → Bool) (b : Bool) (m : Form N A) (k : Unit {0} → Form N A) → Numbered p m → Numbered p (k tt) → Numbered p (fork b m k)
 numbered-fork p true m k h i = h
 numbered-fork p false m k h i = i
@@ -34,7 +52,7 @@ numbered-fork p false m k h i = i
 -- ---- one field
 
 -- the bytes of a field are not as they should be: no rule was looked at
-data OfBytes : Reason → Type 0 where
+pub data OfBytes : Reason → Type 0 where
   no-word : OfBytes not-fixed
   no-digit : OfBytes not-digit
   no-sign : OfBytes not-sign
@@ -48,7 +66,7 @@ not-so : {X : Type 0} (b : Bool) (v : X) (y z : Reason) → OfBytes y → ifSo b
 not-so true v y z o e = absurd (has-or-lacks e)
 not-so false v y z o e = let h : y ≡ z = cc in rw (← h) o
 
-judge-lacks : (κ : Kind) (f : List ℕ) (z : Reason) → judge κ f ≡ lacks z → OfBytes z
+pub judge-lacks : (κ : Kind) (f : List ℕ) (z : Reason) → judge κ f ≡ lacks z → OfBytes z
 unfolding judge
 judge-lacks (fixed bs) f z e = not-so (same bs f) tt not-fixed z no-word e
 judge-lacks (digits w) f z e = not-so (every digit f) (number f) not-digit z no-digit e
@@ -60,7 +78,7 @@ judge-lacks (maybe w) f z e = by (same (blanks w) f) e
 judge-lacks (text sign w) f z e = not-so (every sign f) f not-sign z no-sign e
 judge-lacks (choice w words) f z e = not-so (among words f) f not-fixed z no-word e
 
-rule-broken : {X : Type 0} (p : ℕ → Bool) (rs : List Rule) (v : X) (n : ℕ) → NumberedRules p rs → obey rs v ≡ lacks (breaks n) → T (p n)
+pub rule-broken : {X : Type 0} (p : ℕ → Bool) (rs : List Rule) (v : X) (n : ℕ) → NumberedRules p rs → obey rs v ≡ lacks (breaks n) → T (p n)
 rule-broken p [] v n h e = absurd (has-or-lacks e)
 rule-broken p (rule m true ∷ rs) v n h e = rule-broken p rs v n h.1 e
 rule-broken p (rule m false ∷ rs) v n h e = let g : m ≡ n = cc in rw (← g) h.0

@@ -48,6 +48,10 @@ same (x ∷ xs) (y ∷ ys) = eqb x y && same xs ys
 abbrev pub among : List (List ℕ) → List ℕ → Bool
 among words v = one (λ w. same w v) words
 
+-- a number, or a byte, is one of these
+abbrev pub oneOf : List ℕ → ℕ → Bool
+oneOf xs b = one (λ x. eqb b x) xs
+
 -- which values a field of the kind has room for
 abbrev pub fits : (κ : Kind) → Value κ → Bool
 fits (fixed bs) v = true
@@ -57,18 +61,18 @@ fits (maybe w) (some n) = ltb 0 w && ltb n (10 ^ w)
 fits (text sign w) s = eqb (length s) w && every sign s
 fits (choice w words) v = eqb (length v) w && among words v
 
--- digits are the bytes 48 to 57
+-- digits are the bytes 30 to 39
 abbrev pub digit : ℕ → Bool
-digit b = leb 48 b && leb b 57
+digit b = leb 0x30 b && leb b 0x39
 
 -- a number in w digits, the highest first
 unfoldable pub numeral : ℕ → ℕ → List ℕ
 numeral zero n = []
-numeral (suc w) n = (48 + n / 10 ^ w) ∷ numeral w (n % 10 ^ w)
+numeral (suc w) n = (0x30 + n / 10 ^ w) ∷ numeral w (n % 10 ^ w)
 
--- a blank is the byte 32
+-- a blank is the byte 20
 abbrev pub blanks : ℕ → List ℕ
-blanks n = replicate n 32
+blanks n = replicate n 0x20
 
 -- how a value is spelled
 abbrev pub spell : (κ : Kind) → Value κ → List ℕ

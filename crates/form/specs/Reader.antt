@@ -44,7 +44,7 @@ _then_ (lacks z) k = lacks z
 -- the number that digits spell
 unfoldable pub number : List ℕ → ℕ
 number [] = 0
-number (b ∷ bs) = (b - 48) * 10 ^ length bs + number bs
+number (b ∷ bs) = (b - 0x30) * 10 ^ length bs + number bs
 
 -- blanks, or digits
 abbrev pub optional : Bool → List ℕ → Look (Option ℕ)

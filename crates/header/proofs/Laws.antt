@@ -18,6 +18,7 @@ use Rattle.document.specs.Rules.{All, fileKinds, sendingBankOk, LegalHeader}
 use Rattle.diskette.specs.Fields.{Name, header}
 use Rattle.diskette.proofs.HeaderSays.{header-says}
 use Rattle.calendar.specs.declared.Day.{Day}
+use Rattle.calendar.specs.Days.{dayFrom}
 use Rattle.fields.specs.declared.FileKind.{FileKind}
 use Rattle.fields.specs.declared.KindRead.{KindRead}
 use Rattle.fields.specs.declared.KindRead.the-variants as kind
@@ -25,7 +26,7 @@ use Rattle.fields.specs.Answers.{ofField, ofRead, kindOf, lettersOf, kinds}
 use Rattle.fields.proofs.WalkLaws.{Told, reads}
 use Rattle.fields.proofs.AnswerLaws.{zero-one, kind-is}
 use Rattle.dates.specs.declared.Execution.{Execution}
-use Rattle.dates.specs.Dates.{dayFrom, executionIn}
+use Rattle.dates.specs.Dates.{executionIn}
 use Rattle.header.specs.declared.Header.{Header}
 use Rattle.header.specs.declared.OpeningRead.{OpeningRead}
 use Rattle.header.specs.declared.OpeningRead.the-variants as opened
@@ -118,7 +119,7 @@ header-is x told {h} {q} given =
 pub same-header : (o : Opening) (x : Order) {k : FileKind} {b c : ℕ} {d : Day} {a r : ℕ} {e : Execution}
     → k ≡ kindOf (o .fileKind) → b ≡ o .bankCode → c ≡ o .sendingBank → d ≡ dayFrom (o .made)
     → a ≡ x .account → r ≡ x .reference → e ≡ executionIn (x .execution)
-    → _≡_ {A = Header} (record { kind = k; bank = b; «sending_bank» = c; made = d; account = a; reference = r; execution = e }) (headerOf (joined o x))
+    → _≡_ {A = Header} (record { kind = k; «bank_code» = b; «sending_bank» = c; made = d; account = a; reference = r; execution = e }) (headerOf (joined o x))
 same-header o x k b c d a r e = rw (k, b, c, d, a, r, e)
 
 -- ---- the form of A

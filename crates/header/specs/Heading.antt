@@ -13,7 +13,8 @@ use Rattle.document.specs.Rules.{fileKinds}
 use Rattle.diskette.specs.Fields.{Name, A1, A2, A3, A4, A5, A6, A7, A8, A9, A10, A11a, A11b, A11c, A12, must, text27, rulesA5, rulesA7, executionOf, rulesA11b, header}
 use Rattle.fields.specs.declared.Refusal.{Refusal}
 use Rattle.fields.specs.Answers.{refusalOf, Telling, kindOf}
-use Rattle.dates.specs.Dates.{dayFrom, executionIn}
+use Rattle.calendar.specs.Days.{dayFrom}
+use Rattle.dates.specs.Dates.{executionIn}
 use Rattle.header.specs.declared.Header.{Header}
 use Rattle.header.specs.declared.OpeningRead.{OpeningRead}
 use Rattle.header.specs.declared.OpeningRead.the-variants as opened
@@ -107,7 +108,7 @@ abbrev pub headerOf : values.Header → Header
 headerOf h =
     record {
       kind = kindOf (h .fileKind);
-      bank = h .bankCode;
+      «bank_code» = h .bankCode;
       «sending_bank» = h .sendingBank;
       made = dayFrom (h .made);
       account = h .account;

@@ -20,10 +20,10 @@ use fields::fixed;
 use fields::refusals;
 use layout::width;
 
-// What A tells, as far as the code keeps it: its texts stay in the file.
+// What A tells, as far as the code keeps it: its text, A6, stays in the file.
 pub struct Header {
     pub kind: FileKind,
-    pub bank: u64,
+    pub bank_code: u64,
     pub sending_bank: u64,
     pub made: Day,
     pub account: u64,
@@ -112,7 +112,7 @@ fn opening_at(s: &[u8], p: usize) -> OpeningRead
         return OpeningRead::Refused(a3.why());
     };
     let a4 = fields::number_at(s, p4, width::A4);
-    let Number::Is(bank, p5) = a4 else {
+    let Number::Is(bank_code, p5) = a4 else {
         return OpeningRead::Refused(a4.why());
     };
     let a5 = sending_bank_at(s, p5, kind);
@@ -127,7 +127,7 @@ fn opening_at(s: &[u8], p: usize) -> OpeningRead
     let DayRead::Is(made, p8) = a7 else {
         return OpeningRead::Refused(a7.why());
     };
-    OpeningRead::Is(kind, bank, sending_bank, made, p8)
+    OpeningRead::Is(kind, bank_code, sending_bank, made, p8)
 }
 
 // A8 to A12 at p, of a file made on the day `made`.
@@ -170,7 +170,7 @@ pub fn header_at(s: &[u8], p: usize) -> HeaderRead
     ensures { λ r. ⌜ r ≡ ofRead headers (readAt header (now (s .entry)) p) ⌝ }
 {
     let a = opening_at(s, p);
-    let OpeningRead::Is(kind, bank, sending_bank, made, p8) = a else {
+    let OpeningRead::Is(kind, bank_code, sending_bank, made, p8) = a else {
         return HeaderRead::Refused(a.why());
     };
     let b = order_at(s, p8, made);
@@ -180,7 +180,7 @@ pub fn header_at(s: &[u8], p: usize) -> HeaderRead
     HeaderRead::Is(
         Header {
             kind: kind,
-            bank: bank,
+            bank_code: bank_code,
             sending_bank: sending_bank,
             made: made,
             account: account,

@@ -1,5 +1,4 @@
 -- The fields of a line, told by tables: those of A, the first twelve of a C, and the mark and the text of each part.
--- Assumes nothing.
 use Prim.Native.Nat.{ℕ, zero, suc, _+_, _-_, _*_, _/_, _%_, _≤_, _<_}
 use native.Mathlib.Omega.{arith}
 use mathlib.Core.Path.{_≡_, refl, sym, ap, ap₂, subst, _∙_}
@@ -80,7 +79,7 @@ mark k = cellAt false (12 + 2 * k) .place
 pub no-mark : (k : ℕ) → 15 ≤ k → 0 ≡ mark k
 no-mark k h = ap (λ (c : Cell). c .place) (none-behind-C (12 + 2 * k) (omega arith))
 
--- the second section takes 2 parts, each later one 4
+-- the second section takes 2 parts, the third to fifth 4 each, the sixth 1
 pub marks-of-second : (k : ℕ) → k < 2 → 187 + 29 * k ≡ mark k
 unfolding below numeral toSectionEnd toNextPart
 marks-of-second k h = agree (λ k. 187 + 29 * k) mark 2 k refl h

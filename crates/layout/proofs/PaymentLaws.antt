@@ -1,5 +1,4 @@
 -- A payment that stands in a file: its length, the numbers of its row and the number of its parts at their places, and the bytes that it takes.
--- Assumes nothing.
 use Prim.Native.Nat.{ℕ, _+_, _*_, _≤_, min}
 use native.Mathlib.Omega.{arith}
 use mathlib.Core.Path.{_≡_, refl, sym, ap, _∙_}

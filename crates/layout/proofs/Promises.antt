@@ -1,6 +1,5 @@
 -- What the layout is proved against: the records as they are written, the records that lines stand for, and the lines. The code's constants are
 -- the layout's by the contracts of `src/listed.rt`.
--- Assumes nothing.
 use Prim.Native.Nat.{ℕ, _+_, _*_}
 use native.Mathlib.Omega.{arith}
 use mathlib.Core.Path.{_≡_, refl}

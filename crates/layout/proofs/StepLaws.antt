@@ -1,7 +1,6 @@
 -- From one payment of a file to the next, for every loop over them: what it keeps, and how the number of parts that C18 tells takes it on.
 -- The payments of an accepted file stand one after another behind A. A loop that goes on by the bytes which C18 tells comes to each of them in
 -- turn, and what it keeps of the rows passed and the payments still to come it keeps on (`pass-on`, `pass-to`).
--- Assumes nothing.
 use Prim.Native.Nat.{ℕ, _+_, _*_, _≤_, _<_, min}
 use native.Mathlib.Omega.{arith}
 use mathlib.Core.Path.{_≡_, refl, sym, ap, subst, _∙_}

@@ -54,7 +54,8 @@ fn header_cell(i: usize) -> Cell
     }
 }
 
-// Where in C the mark of part i stands, from 0: the second section takes 2 parts, each later one 4. 0 where a payment has no such part.
+// Where in C the mark of part i stands, from 0: the second section takes 2 parts, the third to fifth 4 each, the sixth 1. 0 where a payment has no
+// such part.
 pub fn mark_at(i: usize) -> usize
     ensures { λ r. ⌜ r ≡ cellAt false (fieldsWith i) .place ⌝ }
 {

@@ -1,5 +1,5 @@
-// That the constants are the layout: each function lists those of one record, and by its contract they are the layout's, one by one. No call
-// needs them.
+// That the constants are the layout: each function lists those of one record, or of a payment's line, and by its contract they are the layout's,
+// one by one. No call needs them.
 ghost use mathlib.Core.Path.{_≡_};
 ghost use Rattle.layout.specs.Widths.{widthsOfA, widthsOfC, widthsOfE};
 ghost use Rattle.layout.specs.Places.{placesOfA, placesOfC, placesOfE};

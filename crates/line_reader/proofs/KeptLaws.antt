@@ -1,17 +1,30 @@
--- A number that keeps the rules of its field, one test after another.
--- Assumes nothing.
+-- A number that keeps the rules of its field, one test after another; and that where a number is none, or fails a test, no number keeps them there.
 use Prim.Native.Nat.{ℕ, _+_}
-use mathlib.Core.Path.{_≡_}
+use mathlib.Core.Path.{_≡_, refl, sym, _∙_, subst}
 use mathlib.Core.Bool.{Bool, true, false, _&&_, not}
 use mathlib.Core.List.{List}
-use lib.Dec.{leb, ltb}
-use borrow.Author.Tests.{not-false}
+use lib.Dec.{T, leb, ltb}
+use borrow.Author.Tests.{not-true, not-false}
 use Rattle.form.specs.Kind.{digits}
-use Rattle.form.specs.Reader.{has}
+use Rattle.form.specs.Form.{Holds}
+use Rattle.form.specs.Reader.{Look, has}
 use Rattle.form.specs.Place.{lookAt, fieldAt}
-use Rattle.form.proofs.BoolLaws.{is-true, T-of, and-both}
+use Rattle.form.proofs.AnswerLaws.{has-or-lacks}
+use Rattle.form.proofs.BoolLaws.{is-true, T-of, and-both, and-of}
 use Rattle.document.specs.Rules.{bankCodeOk, customerOk, keyOk, notZero, sumLimit, mostCents}
 use Rattle.diskette.specs.Fields.{rulesC4, rulesC5, rulesC6, rulesC7a, rulesC10, rulesC11, rulesC12}
+use Rattle.layout.specs.Lines as line
+use Rattle.fields.specs.declared.Refusal.{Refusal}
+use Rattle.fields.specs.declared.Number.{Number}
+use Rattle.fields.specs.declared.Number.the-variants as number
+use Rattle.fields.specs.Answers.{ofField, numbers}
+use Rattle.fields.proofs.WalkLaws.{fails}
+use Rattle.fields.proofs.AnswerLaws.{numbers-told}
+use Rattle.sums.specs.declared.AccountSum.{AccountSum}
+use Rattle.sums.specs.declared.BankCodeSum.{BankCodeSum}
+use Rattle.sums.specs.declared.CentSum.{CentSum}
+use Rattle.line_reader.specs.Lines.{Receiver, Amount}
+use Rattle.line_reader.proofs.FieldLaws.{looked, keeps}
 
 -- both of two tests were passed
 pub both : (a b : Bool) → not (a && b) ≡ false → (a ≡ true) × (b ≡ true)
@@ -41,3 +54,67 @@ module _ (l : List ℕ) (q v : ℕ) where
 
   pub kept-C12 : (sum : ℕ) → lookAt (digits 11) l q ≡ has v → notZero v ≡ true → leb (sum + v) mostCents ≡ true → fieldAt (digits 11) (rulesC12 sum) l q ≡ has v
   kept-C12 sum content e i = rw (content, e, i)
+
+-- ---- and where it does not, or is none, no number keeps them
+
+-- one that was refused
+pub no-number : {a : Number} (p n : ℕ) (x : Look ℕ) → a ≡ ofField numbers p n x → {r : Refusal} → a ≡ number.Refused r → {v : ℕ} → x ≡ has v → ⊥
+no-number p n x told given e = has-or-lacks (sym e ∙ fails numbers-told p n x told given refl .lack)
+
+-- a test that is passed does not fail
+pub failed : {b : Bool} → T b → b ≡ false → ⊥
+failed t e = subst T e t
+
+module _ {l : List ℕ} {p : ℕ} {letters : List ℕ} {accounts banks : ℕ} {a : AccountSum} {b : BankCodeSum} (r : Receiver l p letters accounts banks a b) where
+  pub read-C4 : lookAt (digits 8) l (p + line.C4) ≡ has (r .fields .bankCode)
+  read-C4 = looked (digits 8) (rulesC4 banks) l (p + line.C4) (r .C4)
+
+  pub keeps-C4 : {v : ℕ} → lookAt (digits 8) l (p + line.C4) ≡ has v → Holds (rulesC4 banks v)
+  keeps-C4 e = keeps (digits 8) (rulesC4 banks) l (p + line.C4) (r .C4) e
+
+  pub read-C5 : lookAt (digits 10) l (p + line.C5) ≡ has (r .fields .account)
+  read-C5 = looked (digits 10) (rulesC5 accounts) l (p + line.C5) (r .C5)
+
+  pub keeps-C5 : {v : ℕ} → lookAt (digits 10) l (p + line.C5) ≡ has v → Holds (rulesC5 accounts v)
+  keeps-C5 e = keeps (digits 10) (rulesC5 accounts) l (p + line.C5) (r .C5) e
+
+  pub read-C6 : lookAt (digits 13) l (p + line.C6) ≡ has (r .fields .customer)
+  read-C6 = looked (digits 13) rulesC6 l (p + line.C6) (r .C6)
+
+  pub read-C7a : lookAt (digits 2) l (p + line.C7a) ≡ has (r .fields .key)
+  read-C7a = looked (digits 2) (rulesC7a letters) l (p + line.C7a) (r .C7a)
+
+  -- the tests of the numbers that were read do not fail
+  pub receiver-tests : {bank account customer key : ℕ} → lookAt (digits 8) l (p + line.C4) ≡ has bank → lookAt (digits 10) l (p + line.C5) ≡ has account
+      → lookAt (digits 13) l (p + line.C6) ≡ has customer → lookAt (digits 2) l (p + line.C7a) ≡ has key
+      → {x y z : Bool} → x ≡ bankCodeOk bank → y ≡ customerOk customer → z ≡ keyOk letters key → not ((x && notZero account) && (y && z)) ≡ true → ⊥
+  receiver-tests {bank} {account} {customer} {key} c4 c5 c6 c7a {x} {y} {z} i j k e =
+      let t =
+      and-of (bankCodeOk bank && notZero account) (customerOk customer && keyOk letters key)
+      (and-of (bankCodeOk bank) (notZero account) (keeps-C4 c4 .0) (keeps-C5 c5 .0))
+      (and-of (customerOk customer) (keyOk letters key)
+      (keeps (digits 13) rulesC6 l (p + line.C6) (r .C6) c6 .0) (keeps (digits 2) (rulesC7a letters) l (p + line.C7a) (r .C7a) c7a .0)) in
+      failed t (rw (i, j, k) at (not-true ((x && notZero account) && (y && z)) e))
+
+module _ {l : List ℕ} {p cents : ℕ} {c : CentSum} (a : Amount l p cents c) where
+  pub read-C10 : lookAt (digits 8) l (p + line.C10) ≡ has (a .fields .senderBank)
+  read-C10 = looked (digits 8) rulesC10 l (p + line.C10) (a .C10)
+
+  pub read-C11 : lookAt (digits 10) l (p + line.C11) ≡ has (a .fields .senderAccount)
+  read-C11 = looked (digits 10) rulesC11 l (p + line.C11) (a .C11)
+
+  pub read-C12 : lookAt (digits 11) l (p + line.C12) ≡ has (a .fields .cents)
+  read-C12 = looked (digits 11) (rulesC12 cents) l (p + line.C12) (a .C12)
+
+  pub keeps-C12 : {v : ℕ} → lookAt (digits 11) l (p + line.C12) ≡ has v → Holds (rulesC12 cents v)
+  keeps-C12 e = keeps (digits 11) (rulesC12 cents) l (p + line.C12) (a .C12) e
+
+  pub amount-tests : {bank account v : ℕ} → lookAt (digits 8) l (p + line.C10) ≡ has bank → lookAt (digits 10) l (p + line.C11) ≡ has account
+      → lookAt (digits 11) l (p + line.C12) ≡ has v → {x : Bool} → x ≡ bankCodeOk bank → not ((x && notZero account) && notZero v) ≡ true → ⊥
+  amount-tests {bank} {account} {v} c10 c11 c12 {x} i e =
+      let t =
+      and-of (bankCodeOk bank && notZero account) (notZero v)
+      (and-of (bankCodeOk bank) (notZero account)
+      (keeps (digits 8) rulesC10 l (p + line.C10) (a .C10) c10 .0) (keeps (digits 10) rulesC11 l (p + line.C11) (a .C11) c11 .0))
+      (keeps-C12 c12 .0) in
+      failed t (rw i at (not-true ((x && notZero account) && notZero v) e))

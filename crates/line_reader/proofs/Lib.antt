@@ -1,8 +1,10 @@
 pub mod ReachLaws
 pub mod SignsLaws
-pub mod KeptLaws
-pub mod SeenLaws
 pub mod FieldLaws
+pub mod KeptLaws
 pub mod TextLaws
+pub mod SeenLaws
 pub mod PartLaws
 pub mod PaymentLaws
+pub mod CompleteLaws
+pub mod ToldLaws

@@ -1,5 +1,4 @@
 -- How far it is to the first of a byte: step by step, and how the pieces between such bytes begin.
--- Assumes nothing.
 use Prim.Native.Nat.{ℕ, suc, _+_, _≤_, _<_}
 use native.Mathlib.Omega.{arith}
 use mathlib.Core.Path.{_≡_, refl, sym, subst, _∙_}

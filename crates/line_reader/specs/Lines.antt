@@ -1,12 +1,12 @@
--- What is seen of a payment's line where it is in order, stretch by stretch. Where the code says no, nothing is told. Only private functions go by
--- this; what the walk as a whole tells is `Told`.
-use Prim.Native.Nat.{ℕ, suc, _+_, _-_, _≤_, _<_}
+-- What is seen of a payment's line, stretch by stretch: it is in order, or, where the code says no, none that is in order stands there. Only
+-- private functions go by this; what the walk as a whole tells is `lineSeen`.
+use Prim.Native.Nat.{ℕ, zero, suc, _+_, _-_, _≤_, _<_}
 use mathlib.Core.Path.{_≡_}
-use mathlib.Core.Bool.{Bool, true, _&&_, not}
-use mathlib.Core.List.{List}
+use mathlib.Core.Bool.{Bool, true, _&&_, not, cond}
+use mathlib.Core.List.{List, [], _∷_}
 use lib.ListN.{length, take, drop, getD}
 use lib.Dec.{T, eqb}
-use Rattle.form.specs.Kind.{digits, every}
+use Rattle.form.specs.Kind.{digits}
 use Rattle.form.specs.Reader.{has}
 use Rattle.form.specs.Place.{lookAt, fieldAt}
 use Rattle.document.specs.Signs.{sign}
@@ -14,7 +14,7 @@ use Rattle.document.specs.Marks.{mostParts, roomAfter, markOk}
 use Rattle.layout.specs.Widths as width
 use Rattle.layout.specs.Lines as line
 use Rattle.diskette.specs.Fields.{rulesC4, rulesC5, rulesC6, rulesC7a, rulesC10, rulesC11, rulesC12}
-use Rattle.payment_fields.specs.Stretches as sections
+use Rattle.payment_fields.specs.Stretches as stretches
 use Rattle.sums.specs.declared.AccountSum.{AccountSum}
 use Rattle.sums.specs.declared.BankCodeSum.{BankCodeSum}
 use Rattle.sums.specs.declared.CentSum.{CentSum}
@@ -51,7 +51,7 @@ parted l p =
 
 -- C3 to C7b keep the rules, and the two sums go on to a and b
 pub record Receiver (l : List ℕ) (p : ℕ) (letters : List ℕ) (accounts banks : ℕ) (a : AccountSum) (b : BankCodeSum) : Type 0 where
-  pub fields : sections.Receiver
+  pub fields : stretches.Receiver
   pub C3 : lookAt (digits 8) l (p + line.C3) ≡ has (fields .firstBank)
   pub C4 : fieldAt (digits 8) (rulesC4 banks) l (p + line.C4) ≡ has (fields .bankCode)
   pub C5 : fieldAt (digits 10) (rulesC5 accounts) l (p + line.C5) ≡ has (fields .account)
@@ -62,19 +62,19 @@ pub record Receiver (l : List ℕ) (p : ℕ) (letters : List ℕ) (accounts bank
   pub banksOn : b ≡ record { 0 = banks + fields .bankCode }
 
 abbrev pub Receivers : List ℕ → ℕ → List ℕ → ℕ → ℕ → ReceiverSeen → Type 0
-Receivers l p letters accounts banks receiver.No = Unit {0}
+Receivers l p letters accounts banks receiver.No = (a : AccountSum) (b : BankCodeSum) → Receiver l p letters accounts banks a b → ⊥
 Receivers l p letters accounts banks (receiver.Is a b) = Receiver l p letters accounts banks a b
 
 -- C10 to C12 keep the rules, and the sum goes on to c
 pub record Amount (l : List ℕ) (p cents : ℕ) (c : CentSum) : Type 0 where
-  pub fields : sections.Amount
+  pub fields : stretches.Amount
   pub C10 : fieldAt (digits 8) rulesC10 l (p + line.C10) ≡ has (fields .senderBank)
   pub C11 : fieldAt (digits 10) rulesC11 l (p + line.C11) ≡ has (fields .senderAccount)
   pub C12 : fieldAt (digits 11) (rulesC12 cents) l (p + line.C12) ≡ has (fields .cents)
   pub centsOn : c ≡ record { 0 = cents + fields .cents }
 
 abbrev pub Amounts : List ℕ → ℕ → ℕ → AmountSeen → Type 0
-Amounts l p cents amount.No = Unit {0}
+Amounts l p cents amount.No = (c : CentSum) → Amount l p cents c → ⊥
 Amounts l p cents (amount.Is c) = Amount l p cents c
 
 -- all numbers and the tabs between them, and the sums go on to new
@@ -85,17 +85,20 @@ pub record AllNumbers (l : List ℕ) (p : ℕ) (letters : List ℕ) (sums new : 
   pub amount : Amount l p (sums .cents .0) (new .cents)
 
 abbrev pub Numbers : List ℕ → ℕ → List ℕ → Sums → NumbersSeen → Type 0
-Numbers l p letters sums numbers.No = Unit {0}
+Numbers l p letters sums numbers.No = (new : Sums) → AllNumbers l p letters sums new → ⊥
 Numbers l p letters sums (numbers.Are new) = AllNumbers l p letters sums new
 
 -- ---- texts
 
--- from p to e stand permitted signs, no more than a text has
-pub record SignsTo (l : List ℕ) (p e : ℕ) : Type 0 where
-  pub on : p ≤ e
-  pub few : e ≤ p + width.text
-  pub inside : e ≤ length l
-  pub signs : T (every sign (take (e - p) (drop p l)))
+-- with how many permitted signs these bytes begin; so many are looked at and no more
+unfoldable pub signsAhead : ℕ → List ℕ → ℕ
+signsAhead zero bs = 0
+signsAhead (suc n) [] = 0
+signsAhead (suc n) (b ∷ bs) = let r = signsAhead n bs in cond (sign b) (suc r) 0
+
+-- where the permitted signs from p on end, as many as a text has at the most
+abbrev pub signsEnd : List ℕ → ℕ → ℕ
+signsEnd l p = p + signsAhead width.text (drop p l)
 
 -- what stands behind the tab at q, up to e
 abbrev pub behindTab : List ℕ → ℕ → ℕ → List ℕ
@@ -103,15 +106,13 @@ behindTab l q e = take (e - (q + 1)) (drop (q + 1) l)
 
 -- a tab at q, and a text of a line up to e
 pub record Text (l : List ℕ) (q e : ℕ) : Type 0 where
+  pub inside : q < length l
   pub tab : getD l q 0 ≡ tab
-  pub on : q < e
-  pub few : e ≤ q + (1 + width.text)
-  pub inside : e ≤ length l
-  pub signs : T (every sign (behindTab l q e))
+  pub to : e ≡ signsEnd l (q + 1)
   pub ends : T (not (endsInBlank (behindTab l q e)))
 
 abbrev pub Texts : List ℕ → ℕ → TextSeen → Type 0
-Texts l q text.No = Unit {0}
+Texts l q text.No = (e : ℕ) → Text l q e → ⊥
 Texts l q (text.To e) = Text l q e
 
 -- three of them, the first two not empty
@@ -125,7 +126,7 @@ pub record ThreeTexts (l : List ℕ) (q e : ℕ) : Type 0 where
   pub C16 : Text l second e
 
 abbrev pub Names : List ℕ → ℕ → TextSeen → Type 0
-Names l q text.No = Unit {0}
+Names l q text.No = (e : ℕ) → ThreeTexts l q e → ⊥
 Names l q (text.To e) = ThreeTexts l q e
 
 -- ---- parts
@@ -138,7 +139,7 @@ pub record Part (l : List ℕ) (q room mark e : ℕ) : Type 0 where
   pub text : Text l (q + (1 + width.mark)) e
 
 abbrev pub OnePart : List ℕ → ℕ → ℕ → PartSeen → Type 0
-OnePart l q room part.No = Unit {0}
+OnePart l q room part.No = (mark e : ℕ) → Part l q room mark e → ⊥
 OnePart l q room (part.Is mark e) = Part l q room mark e
 
 -- k parts from q on, and then the line's end at e
@@ -147,5 +148,5 @@ pub data PartsTo (l : List ℕ) : ℕ → ℕ → ℕ → ℕ → Type 0 where
   more : {q room mark r k e : ℕ} → Part l q room mark r → PartsTo l r (roomAfter mark room) k e → PartsTo l q room (suc k) e
 
 abbrev pub AllParts : List ℕ → ℕ → PartsSeen → Type 0
-AllParts l q parts.No = Unit {0}
+AllParts l q parts.No = (k e : ℕ) → PartsTo l q mostParts k e → ⊥
 AllParts l q (parts.Are k e) = PartsTo l q mostParts k e

@@ -1,14 +1,15 @@
-// A payment's line read in one walk, where it is in order: straight from the listing, with no record laid out. What is not so is left to the
-// reading that names the fault.
+// A payment's line read in one walk, straight from the listing, with no record laid out. Where composing makes no payment of the line the answer is
+// no, and the fault is named by the reading that lays out the record.
 ghost use mathlib.Core.Path.{_≡_};
 ghost use Prim.Native.Nat.{_+_, _≤_};
-ghost use lib.ListN.{length};
+ghost use lib.ListN.{length, drop};
 ghost use Rattle.layout.specs.Lines.{tabOfTexts};
 ghost use Rattle.fields.specs.Answers.{lettersOf};
 ghost use Rattle.document.specs.Signs.{sign};
 ghost use Rattle.sums.specs.Sums.{totalsOf};
-ghost use Rattle.line_reader.specs.Lines.{parted, Receivers, Amounts, Numbers, SignsTo, Texts, Names, OnePart, AllParts};
-ghost use Rattle.line_reader.specs.Told.{Told};
+ghost use Rattle.listing.specs.Lines.{lineEnd, split};
+ghost use Rattle.line_reader.specs.Lines.{parted, Receivers, Amounts, Numbers, signsEnd, Texts, Names, OnePart, AllParts};
+ghost use Rattle.line_reader.specs.Told.{lineSeen};
 use fields::FileKind;
 use fields::Number;
 use fields::fixed;
@@ -195,18 +196,18 @@ fn numbers_at(l: &[u8], p: usize, kind: FileKind, sums: Sums) -> NumbersSeen
     })
 }
 
-// Whether b is a permitted sign. Here they are tried one by one, and one look at the bits is less than five ranges.
+// Whether b is a permitted sign. Here bytes are tried one by one, and one look at the bits is less than the three ranges and two signs of `fields`.
 fn is_sign(b: u8) -> bool
     ensures { λ r. ⌜ r ≡ sign b ⌝ }
 {
     let in_word = (SIGNS >> (b & 63)) & 1 == 1;
-    (in_word & ((b >= 32) & (b < 96))) | (b == b'~')
+    (in_word & ((b >= 0x20) & (b < 0x60))) | (b == b'~')
 }
 
 // Where the permitted signs from p on end, as many as a text has at the most.
 fn signs_end(l: &[u8], p: usize) -> usize
     requires { ⌜ p ≤ length (now l) ⌝ }
-    ensures { λ r. ⌜ SignsTo (now (l .entry)) p r ⌝ }
+    ensures { λ r. ⌜ r ≡ signsEnd (now (l .entry)) p ⌝ }
 {
     let mut end = l.len();
     if end - p > width::TEXT {
@@ -306,7 +307,7 @@ fn parts_from(l: &[u8], start: usize) -> PartsSeen
 
 // The payment whose line begins at p, in a file of this kind, after so many payments that come to these sums.
 pub fn read_line(l: &[u8], p: usize, kind: FileKind, count: u64, sums: Sums) -> LineSeen
-    ensures { λ r. ⌜ Told (now (l .entry)) p (lettersOf kind) (totalsOf count sums) sums r ⌝ }
+    ensures { λ r. ⌜ r ≡ lineSeen (lettersOf kind) (totalsOf count sums) sums p (split lineEnd (drop p (now (l .entry)))) ⌝ }
 {
     if count >= payment::MOST_PAYMENTS {
         return LineSeen::No;

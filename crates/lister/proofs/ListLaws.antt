@@ -1,29 +1,32 @@
 -- A listing call, once the check has answered: the file's refusal, no room, or the whole listing.
--- Assumes nothing.
 use Prim.Native.Nat.{ℕ, _≤_}
 use mathlib.Core.Path.{_≡_, refl, sym, ap, _∙_}
 use mathlib.Core.Logic.{_≢_, _⊎_, inl, inr, ⊎-elim}
 use mathlib.Core.Bool.{Bool, true, false, not}
-use mathlib.Core.List.{List}
+use mathlib.Core.List.{List, _∷_}
 use lib.ListN.{length}
-use lib.Dec.{leb}
+use lib.Dec.{T, leb}
 use borrow.Author.Tests.{leb-true, leb-false, not-true, not-false}
+use Rattle.form.specs.Kind.{oneOf}
 use Rattle.form.specs.Reader.{Answer, accepted, refused}
+use Rattle.form.proofs.NumberLaws.{one-within}
 use Rattle.verdict.specs.declared.Verdict.{Verdict}
 use Rattle.verdict.specs.Verdicts.{accepting, refusing}
 use Rattle.verdict.specs.Lent.{filled}
+use Rattle.verdict.specs.Numbers.{ofFile, ofList}
 use Rattle.document.specs.Values.{Document}
 use Rattle.diskette.specs.Writing.{Acceptable}
 use Rattle.diskette.specs.Fields.{Name}
 use Rattle.diskette.specs.Answer.{answer, outcome}
 use Rattle.diskette.proofs.Promises.{accepted-exactly}
+use Rattle.diskette.proofs.Promises as form
 use Rattle.checker.specs.declared.Checked.{Checked}
 use Rattle.checker.specs.Checking.{checkedOf}
 use Rattle.checker.proofs.Promises.{accepts-exactly}
 use Rattle.listing.specs.Endings.{Ending, writes, refuses, listed, written}
 use Rattle.output.specs.declared.Written.{Written}
 use Rattle.output.specs.Writing.{writtenOf}
-use Rattle.output.proofs.EndingLaws.{Says as EndingSays, ends-refused, ends-short, ends-written}
+use Rattle.output.proofs.EndingLaws.{Says as EndingSays, RefusedWith, ends-refused, ends-short, ends-written}
 use Rattle.lister.specs.Printing.{AcceptedFile}
 use Rattle.lister.proofs.ListingLaws.{listingOf, listed-as}
 
@@ -47,6 +50,15 @@ acceptable-or-refused file = by (answer file) refl
     by : (a : Answer Name Document) → answer file ≡ a → Acceptable file ⊎ RefusedAs a
     by (accepted d) i = inl (accepted-exactly file .0 (d, i))
     by (refused z) i = inr refl
+
+-- with a number of a listing call
+pub listed-number : (file : List ℕ) → RefusedWith (0 ∷ ofList) (listed (answer file))
+unfolding outcome listed
+listed-number file = by (answer file) (form.number-listed file)
+  where
+    by : (a : Answer Name Document) → T (oneOf (0 ∷ ofFile) (outcome a .verdict .number)) → RefusedWith (0 ∷ ofList) (listed a)
+    by (accepted d) h = tt
+    by (refused z) h = one-within (0 ∷ ofFile) (0 ∷ ofList) (outcome (refused z) .verdict .number) tt h
 
 pub else-refused : (file : List ℕ) → ¬ Acceptable file → RefusedAs (answer file)
 else-refused file n = ⊎-elim (λ x. absurd (n x)) (λ e. e) (acceptable-or-refused file)

@@ -1,5 +1,4 @@
 -- An accepted file, line by line: what is listed of it before a payment, and the line of the next one.
--- Assumes nothing.
 use Prim.Native.Nat.{ℕ, zero, suc, _+_, _≤_, _<_}
 use native.Mathlib.Numerals.{add-one}
 use native.Mathlib.Omega.{arith}

@@ -1,5 +1,4 @@
 -- The two ways through an accepted file: one counts the bytes of its listing, the other prints them.
--- Assumes nothing.
 use Prim.Native.Nat.{ℕ, _+_, _≤_, _<_}
 use native.Mathlib.Omega.{arith}
 use mathlib.Core.Path.{_≡_, refl, sym, ap, ap₂, _∙_}

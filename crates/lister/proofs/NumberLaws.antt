@@ -1,5 +1,4 @@
 -- Numbers of a payment: where the fields have the width that a line gives them, a number stands in full.
--- Assumes nothing.
 use Prim.Native.Nat.{ℕ, zero, suc, _+_, _≤_, _<_}
 use native.Mathlib.Omega.{arith}
 use mathlib.Core.Path.{_≡_, refl, subst}

@@ -1,5 +1,4 @@
 -- A line printed into the output, field by field: what is still to come is written where the code stands, and the line is whole.
--- Assumes nothing.
 use Prim.Native.Nat.{ℕ, zero, suc, _+_, _-_, _≤_, _<_}
 use native.Mathlib.Nat.{add-zero}
 use native.Mathlib.Numerals.{add-one}

@@ -1,21 +1,24 @@
 -- What the statement of `list` comes to: it admits one answer; a refused call leaves the output as it was; after any other, the output begins with
 -- the listing of the file's document, and is behind it as it was.
--- Assumes nothing.
 use Prim.Native.Nat.{ℕ, _≤_, _<_}
-use mathlib.Core.Path.{_≡_, sym, ap, _∙_}
+use mathlib.Core.Path.{_≡_, sym, ap, subst, _∙_}
 use mathlib.Core.Logic.{_↔_, _≢_, ⊎-elim}
-use mathlib.Core.List.{List}
+use mathlib.Core.List.{List, _∷_}
 use lib.ListN.{length, take, drop}
+use lib.Dec.{T}
+use Rattle.form.specs.Kind.{oneOf}
 use Rattle.verdict.specs.Verdicts.{accepting, refusing}
+use Rattle.verdict.specs.Numbers.{ofList}
 use Rattle.diskette.specs.Writing.{Acceptable}
 use Rattle.diskette.specs.Answer.{answer, outcome}
-use Rattle.diskette.proofs.Promises.{zero-exactly}
+use Rattle.diskette.proofs.Promises.{RefusedFile, zero-exactly}
+use Rattle.diskette.proofs.Promises as form
 use Rattle.listing.specs.Listing.{listing}
 use Rattle.listing.specs.Endings.{Ending, listed}
 use Rattle.output.specs.declared.Written.{Written}
 use Rattle.output.proofs.EndingLaws as endings
 use Rattle.lister.proofs.ListingLaws.{listed-as}
-use Rattle.lister.proofs.ListLaws.{Says, acceptable-or-refused, else-refused}
+use Rattle.lister.proofs.ListLaws.{Says, acceptable-or-refused, else-refused, listed-number}
 
 module _ (file old : List ℕ) where
   -- with room enough
@@ -29,6 +32,14 @@ module _ (file old : List ℕ) where
     -- a file that is not acceptable is refused with the verdict of the check
     pub refused-as-checked : ¬ Acceptable file → r ≡ record { verdict = outcome (answer file) .verdict; length = 0 }
     refused-as-checked n = endings.refused-as end old r new says (else-refused file n)
+
+    -- with the number and the place of the field that is wrong
+    pub refused-file : ¬ Acceptable file → RefusedFile file (r .verdict)
+    refused-file n = subst (RefusedFile file) (sym (ap (λ (w : Written). w .verdict) (refused-as-checked n))) (form.else-refused file n)
+
+    -- the number is 0 or one of those of a listing call
+    pub number-listed : T (oneOf (0 ∷ ofList) (r .verdict .number))
+    number-listed = endings.number-listed end old r new says (0 ∷ ofList) tt tt (listed-number file)
 
     -- a refused call leaves the output as it was
     pub refused-untouched : r .verdict .number ≢ 0 → new ≡ old

@@ -1,5 +1,4 @@
 -- Records that stand in a file, A or a payment: their fields lie in it, their lines are those of the listing, and no line is longer than its record.
--- Assumes nothing.
 use Prim.Native.Nat.{ℕ, zero, suc, _+_, _-_, _*_, _/_, _≤_}
 use native.Mathlib.Omega.{arith}
 use mathlib.Core.Path.{_≡_, refl, sym, ap, _∙_}
@@ -56,7 +55,7 @@ module _ (h : Header) (l : LegalHeader h) {f : List ℕ} {others : List (List �
       ap (line (ascii "A"))
       (cut-laid f 0 recordA (headerFields h) rest (header-formed h l) (from-first s refl ∙ ap (λ bs. bs ++ rest) (sym (header-laid h l))))
 
--- its line is shorter than A
+-- its line is no longer than A
 pub header-short : (h : Header) → LegalHeader h → length (headerLine h) ≤ length (writeHeader h)
 header-short h l =
     let f = writeHeader h in

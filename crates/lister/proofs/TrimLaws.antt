@@ -1,5 +1,4 @@
 -- A text without its trailing blanks, found from its end: what a loop over it keeps, and where it stops.
--- Assumes nothing.
 use Prim.Native.Nat.{ℕ, suc, _-_, _≤_, _<_}
 use native.Mathlib.Omega.{arith}
 use mathlib.Core.Path.{_≡_, refl, sym, ap, _∙_}
@@ -14,18 +13,18 @@ use Rattle.listing.specs.Lines.{trim, endsInBlank}
 use Rattle.listing.proofs.LineLaws.{pad-whole, trim-pad}
 
 -- a blank at the end is taken away
-trim-blank : (xs : List ℕ) → trim (xs ++ (32 ∷ [])) ≡ trim xs
+trim-blank : (xs : List ℕ) → trim (xs ++ (0x20 ∷ [])) ≡ trim xs
 unfolding trim
 trim-blank [] = refl
 trim-blank (x ∷ xs) = rw (trim-blank xs)
 
 -- any other byte there keeps all before it
-trim-sign : (xs : List ℕ) (b : ℕ) → eqb b 32 ≡ false → trim (xs ++ (b ∷ [])) ≡ xs ++ (b ∷ [])
+trim-sign : (xs : List ℕ) (b : ℕ) → eqb b 0x20 ≡ false → trim (xs ++ (b ∷ [])) ≡ xs ++ (b ∷ [])
 trim-sign xs b e =
     let t = xs ++ (b ∷ []) in
     sym (ap trim (pad-whole (length t) t refl)) ∙ trim-pad (length t) t (rw (last-byte xs, e) tt) (omega arith)
   where
-    last-byte : (ys : List ℕ) → endsInBlank (ys ++ (b ∷ [])) ≡ eqb b 32
+    last-byte : (ys : List ℕ) → endsInBlank (ys ++ (b ∷ [])) ≡ eqb b 0x20
     last-byte [] = refl
     last-byte (x ∷ []) = refl
     last-byte (x ∷ y ∷ ys) = last-byte (y ∷ ys)
@@ -45,16 +44,16 @@ module _ {t : List ℕ} {i : ℕ} (w : Trimming t i) (h : 0 < i) where
       let l : i - 1 < length t = omega (arith, w .inside) in
       ap (λ n. take n t) e ∙ take-suc t (i - 1) 0 l
 
-  pub trim-more : getD t (i - 1) 0 ≡ 32 → Trimming t (i - 1)
+  pub trim-more : getD t (i - 1) 0 ≡ 0x20 → Trimming t (i - 1)
   trim-more b = record {
     inside = omega (arith, w .inside);
     rest = w .rest ∙ ap trim one-fewer ∙ ap (λ b. trim (take (i - 1) t ++ (b ∷ []))) b ∙ trim-blank (take (i - 1) t);
   }
 
-  pub trim-stop : getD t (i - 1) 0 ≢ 32 → i ≡ length (trim t)
+  pub trim-stop : getD t (i - 1) 0 ≢ 0x20 → i ≡ length (trim t)
   trim-stop n =
       let b = getD t (i - 1) 0 in
-      sym (ap length (w .rest ∙ ap trim one-fewer ∙ trim-sign (take (i - 1) t) b (ne-eqb b 32 n) ∙ sym one-fewer) ∙ length-take-le i t (w .inside))
+      sym (ap length (w .rest ∙ ap trim one-fewer ∙ trim-sign (take (i - 1) t) b (ne-eqb b 0x20 n) ∙ sym one-fewer) ∙ length-take-le i t (w .inside))
 
 pub trim-all : {t : List ℕ} {i : ℕ} → Trimming t i → i ≤ 0 → 0 ≡ length (trim t)
 unfolding trim

@@ -1,5 +1,4 @@
 -- Composing one line, for any form: the fields that a legal value prints are composed to it, and a line that is composed has such fields.
--- Assumes nothing.
 use Prim.Native.Nat.{ℕ}
 use native.Mathlib.Omega.{arith}
 use mathlib.Core.Path.{_≡_, refl, sym, ap}

@@ -1,5 +1,4 @@
 -- The line of A: the fields of a legal header are composed to it, and a line that is composed to a header has its fields.
--- Assumes nothing.
 use Prim.Native.Nat.{ℕ}
 use mathlib.Core.Path.{_≡_, refl, sym, ap, _∙_}
 use mathlib.Core.Option.{Option, none, some}

@@ -5,5 +5,6 @@ pub mod PrintedLaws
 pub mod HeaderLaws
 pub mod PaymentLaws
 pub mod LinesLaws
+pub mod WholeLaws
 pub mod NumberLaws
 pub mod Promises

@@ -1,5 +1,4 @@
 -- Lines and fields: rows of bytes are parted at a sign and joined again, and trailing blanks are taken away and put back.
--- Assumes nothing.
 use Prim.Native.Nat.{ℕ, zero, suc, _+_, _-_, _≤_}
 use native.Mathlib.Omega.{arith}
 use mathlib.Core.Path.{_≡_, refl, sym, ap, ap₂, _∙_}

@@ -1,5 +1,4 @@
 -- The lines of a listing, one after another: the lines of good payments are composed to them, and no other lines are composed.
--- Assumes nothing.
 use Prim.Native.Nat.{ℕ, suc, _+_, _-_, _≤_}
 use native.Mathlib.Omega.{arith}
 use mathlib.Core.Path.{_≡_, refl, sym, ap, _∙_, subst}

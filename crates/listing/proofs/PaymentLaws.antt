@@ -1,5 +1,4 @@
 -- The line of a C: the fields of a payment that may come next are composed to it, and a line that is composed to a payment has its fields.
--- Assumes nothing.
 use Prim.Native.Nat.{ℕ, suc, _*_, _^_, _≤_, _<_}
 use native.Mathlib.Omega.{arith}
 use mathlib.Core.Path.{_≡_, refl, sym, ap, _∙_, subst}

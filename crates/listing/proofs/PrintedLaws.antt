@@ -1,5 +1,4 @@
 -- Fields as a line prints them: each has the form of its kind, and no tab and no line end in it.
--- Assumes nothing.
 use Prim.Native.Nat.{ℕ, _^_, _<_, _≤_}
 use native.Mathlib.Omega.{arith}
 use mathlib.Core.Path.{_≡_, refl, ap, _∙_, subst}

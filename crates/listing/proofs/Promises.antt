@@ -1,5 +1,4 @@
 -- Listing and composing are each other's way back: listings compose to legal documents and to nothing else, and files and listings come round.
--- Assumes nothing.
 use Prim.Native.Nat.{ℕ, suc}
 use native.Mathlib.Omega.{arith}
 use mathlib.Core.Path.{_≡_, refl, sym, ap, _∙_, subst}

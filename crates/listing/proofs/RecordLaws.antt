@@ -1,5 +1,4 @@
 -- Records laid out from the fields of a line: how long they are, and that cutting them up gives the fields back.
--- Assumes nothing.
 use Prim.Native.Nat.{ℕ, suc, _+_, _≤_}
 use native.Mathlib.Nat.{add-assoc}
 use native.Mathlib.Omega.{arith}

@@ -3,4 +3,3 @@ pub mod Listing
 pub mod Records
 pub mod Composing
 pub mod Endings
-pub mod Cases

@@ -1,5 +1,4 @@
 -- Room in columns, and a column while rows are written into it, one after the other.
--- Assumes nothing.
 use Prim.Native.Nat.{ℕ, _+_, _≤_}
 use native.Mathlib.Nat.{zero-add}
 use native.Mathlib.Numerals.{add-one}

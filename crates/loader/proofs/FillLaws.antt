@@ -1,5 +1,4 @@
 -- One turn of the loop that fills the columns: a row of the next payment, and on to the one behind it.
--- Assumes nothing.
 use Prim.Native.Nat.{ℕ, suc, _+_, _*_, _≤_, _<_, min}
 use mathlib.Core.Path.{_≡_, refl, ap, _∙_}
 use mathlib.Core.List.{List, [], _∷_}

@@ -1,5 +1,4 @@
 -- A load, once the check has answered: the file's refusal, no room, or all rows.
--- Assumes nothing.
 use Prim.Native.Nat.{ℕ}
 use mathlib.Core.Path.{_≡_, refl, sym, ap, subst, _∙_}
 use mathlib.Core.Logic.{_≢_}

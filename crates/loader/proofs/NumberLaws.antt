@@ -1,5 +1,4 @@
 -- A number in bytes that are known to be digits: what a loop over them keeps, and what it comes to.
--- Assumes nothing.
 use Prim.Native.Nat.{ℕ, zero, suc, _+_, _-_, _*_, _%_, _≤_, _<_}
 use native.Mathlib.Omega.{arith}
 use mathlib.Core.Path.{_≡_, sym, ap, _∙_}
@@ -31,20 +30,20 @@ module _ (s : List ℕ) (p w : ℕ) (inside : p + w ≤ length s) (digits : T (e
     byte = sym (getD-take w (drop p s) i 0 h ∙ getD-drop p s i 0)
 
     -- each byte is a digit
-    pub digit-there : (48 ≤ getD s (p + i) 0) × (getD s (p + i) 0 ≤ 57)
+    pub digit-there : (0x30 ≤ getD s (p + i) 0) × (getD s (p + i) 0 ≤ 0x39)
     digit-there =
         let b = getD field i 0 in
-        let d = and-both (leb 48 b) (leb b 57) (each digit field i digits (rw long h)) in
-        rw byte (leb→le 48 b d.0, leb→le b 57 d.1)
+        let d = and-both (leb 0x30 b) (leb b 0x39) (each digit field i digits (rw long h)) in
+        rw byte (leb→le 0x30 b d.0, leb→le b 0x39 d.1)
 
     -- one digit more
-    pub number-more : {v : ℕ} → Spelt field i v → Spelt field (i + 1) (v * 10 + (getD s (p + i) 0 - 48))
+    pub number-more : {v : ℕ} → Spelt field i v → Spelt field (i + 1) (v * 10 + (getD s (p + i) 0 - 0x30))
     number-more {v} k =
         let b = getD s (p + i) 0 in
         let d = digit-there in
-        let small : b - 48 < 256 = omega arith in
-        let same : (b - 48 + 48) % 256 ≡ b = omega arith in
-        spelt-more field i v (b - 48) k (rw long h) small (same ∙ byte) (omega arith)
+        let small : b - 0x30 < 256 = omega arith in
+        let same : (b - 0x30 + 0x30) % 256 ≡ b = omega arith in
+        spelt-more field i v (b - 0x30) k (rw long h) small (same ∙ byte) (omega arith)
 
   -- all of them
   pub number-whole : {i v : ℕ} → Spelt field i v → w ≤ i → v ≡ number field

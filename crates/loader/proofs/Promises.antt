@@ -1,6 +1,5 @@
 -- What the statement of `load` comes to: it admits one answer; a refused call leaves the columns as they were; after any other, row i of each
 -- column is that field of payment i, and count and totals are those of the payments.
--- Assumes nothing.
 use Prim.Native.Nat.{ℕ, _+_}
 use native.Mathlib.Omega.{arith}
 use mathlib.Core.Path.{_≡_, refl, sym, ap, subst, _∙_}
@@ -9,16 +8,21 @@ use mathlib.Core.Bool.{Bool, true, false}
 use mathlib.Core.List.{List, [], _∷_, _++_}
 use mathlib.Core.Option.{some}
 use lib.ListN.{length, take, drop, getD, getElem?, length-map}
+use lib.Dec.{T}
 use borrow.Author.Tests.{eq-eqb, ne-eqb}
+use Rattle.form.specs.Kind.{oneOf}
 use Rattle.form.specs.Reader.{Answer, accepted, refused}
+use Rattle.form.proofs.NumberLaws.{one-within}
 use Rattle.document.specs.Values.{Payment, Document, totals}
 use Rattle.diskette.specs.Writing.{writeHeader, writePayment, writePayments, Acceptable}
 use Rattle.diskette.specs.Fields.{Name}
 use Rattle.verdict.specs.Verdicts.{accepting}
 use Rattle.verdict.specs.Lent.{filled}
+use Rattle.verdict.specs.Numbers.{ofFile, ofLoad}
 use Rattle.diskette.specs.Answer.{answer, outcome, paymentsOf}
 use Rattle.diskette.proofs.LayoutLaws.{header-length}
-use Rattle.diskette.proofs.Promises.{zero-exactly, accepted-exactly, accepted-reading}
+use Rattle.diskette.proofs.Promises.{RefusedFile, else-refused, zero-exactly, accepted-exactly, accepted-reading}
+use Rattle.diskette.proofs.Promises as form
 use Rattle.layout.specs.Steps.{firstPayment}
 use Rattle.checker.specs.declared.Checked.{Checked}
 use Rattle.checker.specs.Checking.{checkedOf}
@@ -31,6 +35,19 @@ use Rattle.loader.proofs.RowLaws.{row-of, start-of, stands-at, behind-r
 
 sixteen : _≡_ {A = ℕ} 0 16 → ⊥
 sixteen e = omega arith
+
+-- 0, or one of the numbers of a load
+pub loading-number : (columns : List (List ℕ)) (file : List ℕ) → T (oneOf (0 ∷ ofLoad) (loading columns (answer file) .verdict .number))
+unfolding loading outcome
+loading-number columns file = by (answer file) (form.number-listed file)
+  where
+    with-room : (b : Bool) (d : Document) → T (oneOf (0 ∷ ofLoad) (ifRoom b (outcome (accepted d)) .verdict .number))
+    with-room true d = tt
+    with-room false d = tt
+
+    by : (a : Answer Name Document) → T (oneOf (0 ∷ ofFile) (outcome a .verdict .number)) → T (oneOf (0 ∷ ofLoad) (loading columns a .verdict .number))
+    by (accepted d) h = with-room (haveRoom (length (d .payments)) columns) d
+    by (refused z) h = one-within (0 ∷ ofFile) (0 ∷ ofLoad) (outcome (refused z) .verdict .number) tt h
 
 module _ (file c4 c5 c12 start : List ℕ) where
   pub one-answer : (r s : Checked) (a₁ a₂ a₃ a₄ b₁ b₂ b₃ b₄ : List ℕ) → Says file c4 c5 c12 start r a₁ a₂ a₃ a₄ → Says file c4 c5 c12 start s b₁ b₂ b₃ b₄
@@ -57,6 +74,14 @@ module _ (file c4 c5 c12 start : List ℕ) where
         by : (a : Answer Name Document) → answer file ≡ a → checkedOf (loading columns a) ≡ checkedOf (outcome a)
         by (accepted d) e = absurd (n (accepted-exactly file .0 (d, e)))
         by (refused z) e = refl
+
+    -- with the number and the place of the field that is wrong
+    pub refused-file : ¬ Acceptable file → RefusedFile file (r .verdict)
+    refused-file n = subst (RefusedFile file) (sym (ap (λ (x : Checked). x .verdict) (refused-as-checked n))) (else-refused file n)
+
+    -- the number is 0 or one of those of a load
+    pub number-listed : T (oneOf (0 ∷ ofLoad) (r .verdict .number))
+    number-listed = subst (λ (x : Checked). T (oneOf (0 ∷ ofLoad) (x .verdict .number))) (sym (says .0)) (loading-number columns file)
 
     module _ (x : Acceptable file) where
       abbrev d : Document

@@ -32,6 +32,6 @@ abbrev pub ifLoaded : Bool → List Payment → List Payment
 ifLoaded true ps = ps
 ifLoaded false ps = []
 
--- the payments that a load of the file writes into the columns: where it accepts all of them, else none
+-- the payments that a load of the file writes into the columns: all of them where it accepts, else none
 abbrev pub rows : Checked → List ℕ → List Payment
 rows r file = ifLoaded (isAccepted (r .verdict)) (paymentsOf (answer file))

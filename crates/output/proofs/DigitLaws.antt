@@ -1,5 +1,4 @@
 -- The digits of a number, written from the last to the first.
--- Assumes nothing.
 use Prim.Native.Nat.{ℕ, suc, _+_, _-_, _*_, _/_, _%_, _^_, _≤_, _<_}
 use native.Mathlib.Nat.{add-zero, pow-zero, pow-suc, one-le-pow, mul-le-mul-right, div-one, div-eq-of-lt, div-add-mod', div-div-eq-div-mul}
 use native.Mathlib.Nat.{mod-lt, mod-eq-of-lt, mul-add-div-right, mul-add-mod-self-right}
@@ -29,7 +28,7 @@ module _ (v k : ℕ) where
       let h : d * 10 ^ k + r < 10 ^ k * 10 = omega (arith, mod-lt v power, mul-le-mul-right (10 ^ k) small) in
       ap (λ (n : ℕ). n % 10 ^ suc k) e ∙ rw (pow-suc 10 k) (mul-add-mod-self-right q (10 ^ k * 10) (d * 10 ^ k + r) ∙ mod-eq-of-lt h)
 
-  numeral-before : numeral (suc k) (v % 10 ^ suc k) ≡ (48 + v / 10 ^ k % 10) ∷ numeral k (v % 10 ^ k)
+  numeral-before : numeral (suc k) (v % 10 ^ suc k) ≡ (0x30 + v / 10 ^ k % 10) ∷ numeral k (v % 10 ^ k)
   unfolding numeral
   numeral-before =
       let d = v / 10 ^ k % 10 in
@@ -54,13 +53,13 @@ spelling-start old p v w h =
     record { count = 0; places = omega arith; room = h; long = refl; rest = rw (pow-zero 10, div-one v); holds = sym (over-nothing (p + w) old) }
 
 pub spelling-more : {old out : List ℕ} {p v w left i : ℕ} → Spelling old p v w out left i → 0 < i
-    → Spelling old p v w (set out (p + (i - 1)) (48 + left % 10)) (left / 10) (i - 1)
+    → Spelling old p v w (set out (p + (i - 1)) (0x30 + left % 10)) (left / 10) (i - 1)
 spelling-more {old} {out} {p} {v} {i = i} s h =
     let k = s .count in
     let e : p + i ≡ suc (p + (i - 1)) = omega arith in
     let digits = numeral k (v % 10 ^ k) in
     let l = numeral-length k (v % 10 ^ k) in
-    let next = over-before (p + (i - 1)) (48 + v / 10 ^ k % 10) digits old (omega arith) in
+    let next = over-before (p + (i - 1)) (0x30 + v / 10 ^ k % 10) digits old (omega arith) in
     record {
       count = suc k;
       places = omega arith;

@@ -1,15 +1,15 @@
 -- A call that writes: what its statement comes to, for every way in which it would end with room enough.
--- Assumes nothing.
 use Prim.Native.Nat.{ℕ, _≤_, _<_}
 use native.Mathlib.Omega.{arith}
-use mathlib.Core.Path.{_≡_, refl, sym, ap, _∙_}
+use mathlib.Core.Path.{_≡_, refl, sym, ap, subst, _∙_}
 use mathlib.Core.Logic.{_≢_}
-use mathlib.Core.Bool.{Bool, true, false}
+use mathlib.Core.Bool.{Bool, true, false, cond}
 use mathlib.Core.List.{List}
 use lib.ListN.{length, take, drop}
 use lib.Seq.{take-at, drop-at}
-use lib.Dec.{leb}
+use lib.Dec.{T, leb}
 use borrow.Author.Tests.{leb-true, leb-false, le-leb, lt-leb}
+use Rattle.form.specs.Kind.{oneOf}
 use Rattle.verdict.specs.declared.Verdict.{Verdict}
 use Rattle.verdict.specs.Verdicts.{accepting, refusing}
 use Rattle.verdict.specs.Lent.{filled}
@@ -62,6 +62,21 @@ module _ (bs old : List ℕ) {n : ℕ} {new : List ℕ} (l : n ≡ length bs) (f
   pub filled-behind : drop n new ≡ drop n old
   filled-behind = ap (drop n) f ∙ drop-at bs (drop (length bs) old) n (sym l) ∙ ap (λ k. drop k old) (sym l)
 
+-- a refusal has one of these numbers
+abbrev pub RefusedWith : List ℕ → Ending → Type 0
+RefusedWith ns (writes bs) = Unit {0}
+RefusedWith ns (refuses v) = T (oneOf ns (v .number))
+
+pub within-number : (room : ℕ) (e : Ending) (ns : List ℕ) → T (oneOf ns 0) → T (oneOf ns 16) → RefusedWith ns e
+    → T (oneOf ns (writtenOf (within room e) .verdict .number))
+unfolding within
+within-number room (writes bs) ns zero sixteen refusal = by (leb (length bs) room)
+  where
+    by : (b : Bool) → T (oneOf ns (writtenOf (cond b (writes bs) (refuses (refusing 16 0))) .verdict .number))
+    by true = zero
+    by false = sixteen
+within-number room (refuses v) ns zero sixteen refusal = refusal
+
 sixteen : _≡_ {A = ℕ} 0 16 → ⊥
 sixteen e = omega arith
 
@@ -81,6 +96,11 @@ module _ (e : Ending) (old : List ℕ) where
         by : (x : Ending) → end ≡ x → new ≡ old
         by (writes bs) i = absurd (n (ap (λ (w : Written). w .verdict .number) (says .0 ∙ ap writtenOf i)))
         by (refuses v) i = says .1 ∙ ap (λ x. filled (written x) old) i
+
+    -- the number is among some that have 0, 16 and what the input is refused with
+    pub number-listed : (ns : List ℕ) → T (oneOf ns 0) → T (oneOf ns 16) → RefusedWith ns e → T (oneOf ns (r .verdict .number))
+    number-listed ns zero sixteen refusal =
+        subst (λ (w : Written). T (oneOf ns (w .verdict .number))) (sym (says .0)) (within-number (length old) e ns zero sixteen refusal)
 
     -- the length given is that of what was written
     length-is : r .length ≡ length (written end)

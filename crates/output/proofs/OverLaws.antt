@@ -1,5 +1,4 @@
 -- Bytes written over others: where there is room for them, what is there then, and how one writing goes on where another ended.
--- Assumes nothing.
 use Prim.Native.Nat.{ℕ, suc, _+_, _-_, _≤_}
 use native.Mathlib.Nat.{zero-add, add-assoc}
 use native.Mathlib.Omega.{arith}

@@ -1,5 +1,4 @@
 -- Bytes written one by one from a place on, and the bytes of a field made wide.
--- Assumes nothing.
 use Prim.Native.Nat.{ℕ, _+_, _-_, _≤_, _<_}
 use native.Mathlib.Numerals.{add-one}
 use native.Mathlib.Omega.{arith}
@@ -58,8 +57,8 @@ module _ (w : ℕ) (t : List ℕ) where
   pub pad-text : (i : ℕ) → i < w → i < length t → getD (pad w t) i 0 ≡ getD t i 0
   pad-text i h l = getD-take w (t ++ blanks w) i 0 h ∙ List·getD-append t (blanks w) 0 i l
 
-  pub pad-blank : (i : ℕ) → i < w → length t ≤ i → getD (pad w t) i 0 ≡ 32
+  pub pad-blank : (i : ℕ) → i < w → length t ≤ i → getD (pad w t) i 0 ≡ 0x20
   pad-blank i h l =
       let e : length t + (i - length t) ≡ i = omega arith in
       getD-take w (t ++ blanks w) i 0 h
-      ∙ rw (← e) (getD-append-add t (blanks w) (i - length t) 0 ∙ getD-replicate w (i - length t) 32 0 (omega arith))
+      ∙ rw (← e) (getD-append-add t (blanks w) (i - length t) 0 ∙ getD-replicate w (i - length t) 0x20 0 (omega arith))

@@ -1,5 +1,4 @@
 -- The number of parts that C18 tells, as the code looks for it: the file ends before it, no digits stand there, or it is told.
--- Assumes nothing.
 use Prim.Native.Nat.{ℕ, _+_}
 use native.Mathlib.Omega.{arith}
 use mathlib.Core.Path.{_≡_, refl, sym, ap, _∙_}

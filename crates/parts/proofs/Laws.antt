@@ -73,7 +73,7 @@ module _ (n : ℕ) (f : List ℕ) (p : ℕ) where
 
   pub closing-some : (w : ℕ) → (w ≡ 0 → ⊥) → ofField passings p (p + w) (lookAt (fixed (blanks w)) f p) ≡ ofRead passings (readAt (closingBlanks n w) f p)
   closing-some zero e = absurd (e refl)
-  closing-some (suc w) e = rw (length-replicate {A = ℕ} (suc w) 32) at (last {t = passings} {f = f} passings (λ v q. refl) (λ x. refl) (start (closingBlanks n (suc w)) p))
+  closing-some (suc w) e = rw (length-replicate {A = ℕ} (suc w) 0x20) at (last {t = passings} {f = f} passings (λ v q. refl) (λ x. refl) (start (closingBlanks n (suc w)) p))
 
 -- how many they are
 module _ (i : ℕ) where

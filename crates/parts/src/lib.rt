@@ -25,7 +25,7 @@ const PART: u64 = width::PART as u64;
 
 const SECTION: u64 = length::SECTION as u64;
 
-// The blanks behind the last part that a section takes: two in the second, four in each later one.
+// The blanks behind the last part that a section takes: two in the second, four in the third to fifth.
 const BEHIND_TWO: usize = length::SHORTEST_C - at::PARTS - 2 * width::PART;
 
 const BEHIND_FOUR: usize = length::SECTION - 4 * width::PART;
@@ -88,7 +88,7 @@ fn part_at(s: &[u8], p: usize) -> &[u8]
 }
 
 // The mark of a part, where left more parts are to come.
-pub fn mark_in(part: &[u8], room: u64, left: u64) -> Number
+fn mark_in(part: &[u8], room: u64, left: u64) -> Number
     ensures { λ r. ⌜ r ≡ ofField numbers 0 2 (fieldAt (digits 2) (markRules room left) (now (part .entry)) 0) ⌝ }
 {
     let read = fields::number_at(part, 0, width::MARK);
@@ -105,7 +105,7 @@ pub fn mark_in(part: &[u8], room: u64, left: u64) -> Number
 }
 
 // The text of a part.
-pub fn words_in(part: &[u8]) -> Passed
+fn words_in(part: &[u8]) -> Passed
     ensures { λ r. ⌜ r ≡ ofField passings 2 29 (lookAt text27 (now (part .entry)) 2) ⌝ }
 {
     fields::text_at(part, width::MARK)

@@ -179,7 +179,7 @@ fn key_at(s: &[u8], p: usize, kind: FileKind) -> Number
 }
 
 // C10.
-fn bank_code_at(s: &[u8], p: usize) -> Number
+fn sender_bank_at(s: &[u8], p: usize) -> Number
     ensures { λ r. ⌜ r ≡ ofField numbers p (p + 8) (fieldAt (digits 8) rulesC10 (now (s .entry)) p) ⌝ }
 {
     let a = fields::number_at(s, p, width::C10);
@@ -193,7 +193,7 @@ fn bank_code_at(s: &[u8], p: usize) -> Number
 }
 
 // C11.
-fn account_at(s: &[u8], p: usize) -> Number
+fn sender_account_at(s: &[u8], p: usize) -> Number
     ensures { λ r. ⌜ r ≡ ofField numbers p (p + 10) (fieldAt (digits 10) rulesC11 (now (s .entry)) p) ⌝ }
 {
     let a = fields::number_at(s, p, width::C11);
@@ -211,13 +211,13 @@ fn cents_into(s: &[u8], p: usize, sum: CentSum) -> CentsRead
     ensures { λ r. ⌜ r ≡ ofField (centsOn (sum .0)) p (p + 11) (fieldAt (digits 11) (rulesC12 (sum .0)) (now (s .entry)) p) ⌝ }
 {
     let a = fields::number_at(s, p, width::C12);
-    let Number::Is(v, q) = a else {
+    let Number::Is(cents, q) = a else {
         return CentsRead::Refused(a.why());
     };
-    if v == 0 {
+    if cents == 0 {
         return CentsRead::Refused(fields::refuse(refusals::CONDITION, p));
     }
-    let added = sum.add(v);
+    let added = sum.add(cents);
     let CentsAdded::Within(total) = added else {
         return CentsRead::Refused(fields::refuse(refusals::CENTS_OVER, p));
     };
@@ -291,11 +291,11 @@ pub fn amount_at(s: &[u8], p: usize, cents: CentSum) -> CentsRead
     let Passed::To(p10) = c9 else {
         return CentsRead::Refused(c9.why());
     };
-    let c10 = bank_code_at(s, p10);
+    let c10 = sender_bank_at(s, p10);
     let Number::Is(_, p11) = c10 else {
         return CentsRead::Refused(c10.why());
     };
-    let c11 = account_at(s, p11);
+    let c11 = sender_account_at(s, p11);
     let Number::Is(_, p12) = c11 else {
         return CentsRead::Refused(c11.why());
     };

@@ -1,5 +1,4 @@
 -- How many digits a number has in decimal: counted by dividing, enough to hold it, and at most 20 for a number of 64 bits.
--- Assumes nothing.
 use Prim.Native.Nat.{ℕ, zero, suc, _+_, _/_, _%_, _^_, _≤_, _<_}
 use native.Mathlib.Nat.{pow-suc, div-lt-iff-lt-mul, mod-eq-of-lt}
 use native.Mathlib.Omega.{arith}

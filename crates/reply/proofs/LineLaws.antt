@@ -1,5 +1,4 @@
 -- The line of a refusal: how long it is, and that it stands in the output once its pieces were written one behind the other.
--- Assumes nothing.
 use Prim.Native.Nat.{ℕ, _+_, _-_, _%_, _^_, _≤_, _<_}
 use native.Mathlib.Omega.{arith}
 use mathlib.Core.Path.{_≡_, sym, ap, ap₂, _∙_}

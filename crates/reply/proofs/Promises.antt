@@ -1,6 +1,5 @@
 -- What the statements of `list` and `make` come to: each admits one answer, with which the output begins; what it says to which input; and in an
--- output of 32,768 bytes nothing of it is cut, and each acceptable file is listed and comes back.
--- Assumes nothing.
+-- output of 32,768 bytes nothing of it is cut, and each acceptable file of as many bytes at most is listed and comes back.
 use Prim.Native.Nat.{ℕ, _≤_, _<_}
 use native.Mathlib.Omega.{arith}
 use mathlib.Core.Path.{_≡_, refl, sym, ap, subst, _∙_}

@@ -1,5 +1,4 @@
 -- A reply: what a call has written, or the line of its refusal, and how the code comes to it.
--- Assumes nothing.
 use Prim.Native.Nat.{ℕ, _≤_, _<_}
 use mathlib.Core.Path.{_≡_, refl, sym, ap, subst, _∙_}
 use mathlib.Core.Logic.{_≢_}

@@ -1,7 +1,5 @@
--- Each promise of the crate admits one answer. No promise fixes a reference's ghost name, which is no part of the machine value, so of `make`, `hand` and `text_of` what is one is the machine value: the pointer, the count and the numbers.
---     one-made, one-handed, one-text      any two answers that keep the promise have the same machine value
---     one-verdict                         the promise of `verdict_of` is an equation: any two answers are the same
--- Assumes nothing.
+-- The statements of `make`, `hand` and `text_of` admit one answer. None fixes a reference's ghost name, which is no part of the machine value, so
+-- what is one is the machine value: the pointer, the count and the numbers.
 use mathlib.Core.Path.{_≡_, sym, _∙_}
 use Prim.Native.Nat.{ℕ}
 use mathlib.Core.List.{List}
@@ -10,11 +8,10 @@ use mir.Val.{vint, vstruct, vcons, vnil}
 use lib.ListN.{length}
 use denote.Ref.{RefT, now}
 use denote.Slice.{sliceVal}
-use Rattle.verdict.specs.declared.Verdict.{Verdict}
 use Rattle.verdict.proofs.Verdict.Laws as D′
 use Rattle.finder.specs.declared.Wanted.{Wanted}
 use Rattle.finder.specs.declared.Spot.{Spot}
-use Rattle.view.specs.Views.{IsMade, IsHanded, IsText, verdictFor}
+use Rattle.view.specs.Views.{IsMade, IsHanded, IsText}
 use Rattle.view.specs.declared.Made.{Made}
 use Rattle.view.specs.declared.Handed.{Handed}
 use Rattle.view.proofs.Made.Laws as N′
@@ -33,6 +30,3 @@ one-handed s p x y e f = λ j. vstruct (vcons (one-slice (x .text) (y .text) (e 
 
 pub one-text : (s : RefT (List ℕ)) (n : ℕ) (w : Wanted) (x y : RefT (List ℕ)) → IsText s n w x → IsText s n w y → slice x ≡ slice y
 one-text s n w x y e f = one-slice x y e f
-
-pub one-verdict : (file : List ℕ) (n : ℕ) (w : Wanted) (x y : Verdict) → x ≡ verdictFor file n w → y ≡ verdictFor file n w → x ≡ y
-one-verdict file n w x y e f = e ∙ sym f

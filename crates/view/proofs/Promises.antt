@@ -1,30 +1,32 @@
 -- What the statements of `make`, `hand`, `text_of` and `verdict_of` come to: a refusal gives no bytes, and which one it is; and of payment n of an
 -- acceptable file the view has the whole file and the payment's start, and hands out the payment's own texts.
--- Assumes nothing.
 use Prim.Native.Nat.{ℕ, _+_, _-_, _≤_}
 use native.Mathlib.Nat.{add-zero, sub-zero, add-sub-cancel-left}
 use native.Mathlib.Omega.{arith}
-use mathlib.Core.Path.{_≡_, refl, ap, subst, _∙_}
+use mathlib.Core.Path.{_≡_, refl, sym, ap, subst, _∙_}
 use mathlib.Core.Logic.{_≢_}
 use mathlib.Core.Bool.{Bool, true, false}
-use mathlib.Core.List.{List, []}
+use mathlib.Core.List.{List, [], _∷_}
 use mathlib.Core.Option.{none, some}
 use lib.ListN.{length, take, drop, getElem?}
 use lib.Seq.{take-all}
+use lib.Dec.{T}
 use borrow.Author.Tests.{eqb-false, ne-eqb}
 use denote.Ref.{RefT, now}
+use Rattle.form.specs.Kind.{oneOf}
 use Rattle.verdict.specs.declared.Verdict.{Verdict}
 use Rattle.verdict.specs.Verdicts.{accepting, refusing, isAccepted}
+use Rattle.verdict.specs.Numbers.{ofView}
 use Rattle.document.specs.Values.{Payment}
 use Rattle.diskette.specs.Writing.{Acceptable}
 use Rattle.diskette.specs.Answer.{answer, outcome}
 use Rattle.diskette.specs.Cases.{given}
-use Rattle.diskette.proofs.Promises.{zero-exactly}
+use Rattle.diskette.proofs.Promises.{RefusedFile, else-refused, zero-exactly}
 use Rattle.finder.specs.declared.Wanted.{Wanted}
 use Rattle.finder.specs.declared.Spot.{Spot}
 use Rattle.finder.specs.Texts.{textOf, textWidth, placeOf}
 use Rattle.finder.specs.Spots.{nowhere, standing, findAt, locating, locateAt}
-use Rattle.finder.proofs.Promises.{nineteen, refused-as-checked, find-refuses, locate-refuses, no-payment, startOf, PaymentIs, payment-is}
+use Rattle.finder.proofs.Promises.{nineteen, find-as-checked, find-refused-file, locate-refused-file, find-number, locate-number, find-refuses, locate-refuses, no-payment, startOf, PaymentIs, payment-is}
 use Rattle.view.specs.declared.View.{View}
 use Rattle.view.specs.declared.Made.{Made}
 use Rattle.view.specs.declared.Handed.{Handed}
@@ -77,6 +79,25 @@ no-text-of s n w r promised nonzero = by (isAccepted (findAt (now s) n .verdict)
 
 -- ---- which verdict it is
 
+-- of a file that is not acceptable: the number and the place of the field that is wrong
+pub make-refused-file : (s : RefT (List ℕ)) (n : ℕ) (m : Made) → IsMade s (findAt (now s) n) m → ¬ Acceptable (now s) → RefusedFile (now s) (m .verdict)
+make-refused-file s n m promised not = subst (RefusedFile (now s)) (sym (promised .2)) (find-refused-file (now s) not n)
+
+pub hand-refused-file : (v : View) (w : Wanted) (h : Handed) → IsHanded (v .file) (locateAt (now (v .file)) (v .start) w) h → ¬ Acceptable (now (v .file))
+    → RefusedFile (now (v .file)) (h .verdict)
+hand-refused-file v w h promised not = subst (RefusedFile (now (v .file))) (sym (promised .1)) (locate-refused-file (now (v .file)) not (v .start) w)
+
+-- 0, or one of the numbers of the view
+abbrev Numbered : Verdict → Type 0
+Numbered v = T (oneOf (0 ∷ ofView) (v .number))
+
+pub make-number : (s : RefT (List ℕ)) (n : ℕ) (m : Made) → IsMade s (findAt (now s) n) m → T (oneOf (0 ∷ ofView) (m .verdict .number))
+make-number s n m promised = subst Numbered (sym (promised .2)) (find-number (now s) n)
+
+pub hand-number : (v : View) (w : Wanted) (h : Handed) → IsHanded (v .file) (locateAt (now (v .file)) (v .start) w) h
+    → T (oneOf (0 ∷ ofView) (h .verdict .number))
+hand-number v w h promised = subst Numbered (sym (promised .1)) (locate-number (now (v .file)) (v .start) w)
+
 module _ (file : List ℕ) (n : ℕ) (w : Wanted) where
   -- the making's refusal goes before the hand-out's verdict
   making-first : {p : Spot} → findAt file n ≡ p → p .verdict .number ≢ 0 → verdictFor file n w ≡ p .verdict
@@ -87,7 +108,18 @@ module _ (file : List ℕ) (n : ℕ) (w : Wanted) where
 
   -- that of the check, where the file is not acceptable
   pub verdict-as-checked : ¬ Acceptable file → verdictFor file n w ≡ outcome (answer file) .verdict
-  verdict-as-checked not = making-first (refused-as-checked file not n 0 w .0) (λ z. not (zero-exactly file .0 z))
+  verdict-as-checked not = making-first (find-as-checked file not n) (λ z. not (zero-exactly file .0 z))
+
+  pub verdict-refused-file : ¬ Acceptable file → RefusedFile file (verdictFor file n w)
+  verdict-refused-file not = subst (RefusedFile file) (sym (verdict-as-checked not)) (else-refused file not)
+
+  pub verdict-number : T (oneOf (0 ∷ ofView) (verdictFor file n w .number))
+  unfolding firstOf
+  verdict-number = by (isAccepted (findAt file n .verdict))
+    where
+      by : (b : Bool) → Numbered (ifNone b (findAt file n .verdict) (textAt file n w .verdict))
+      by true = locate-number (viewed file n) (findAt file n .from) w
+      by false = find-number file n
 
   -- 19 at 0, where there are fewer payments
   pub verdict-no-payment : (x : Acceptable file) → length (x .0 .payments) ≤ n → verdictFor file n w ≡ refusing 19 0

@@ -1,6 +1,6 @@
 // The view of one payment: it holds the file and where the payment begins, and hands out the payment's texts as stretches of the file itself.
-// What branches stands in `finder`, on plain parameters. The calls here make a view, take one or take one apart, and only go from a spot to a
-// stretch of the file.
+// What branches stands in `finder`, on plain parameters, but for the choice between two verdicts. The calls here make a view, take one or take one
+// apart, and only go from a spot to a stretch of the file.
 ghost use mathlib.Core.Path.{_≡_};
 ghost use Prim.Native.Nat.{_≤_};
 ghost use lib.ListN.{length};

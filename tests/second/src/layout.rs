@@ -3,7 +3,7 @@
 use Content::{Blanks, Digits, ExecutionDate, Figure, FileKind, Fixed, Name, Text, Zeros};
 use Meaning::{
     Account, Amount, BankCode, CountedAccount, CountedBankCode, CreationDate, Customer, Free, Key,
-    Mark, SenderBank,
+    Mark, SendingBank,
 };
 
 /// What a field holds. The order in a field is the same everywhere: first its bytes, then their meaning.
@@ -29,7 +29,7 @@ pub enum Content {
 #[derive(Clone, Copy, Debug)]
 pub enum Meaning {
     Free,
-    SenderBank,
+    SendingBank,
     CreationDate,
     CountedBankCode,
     CountedAccount,
@@ -86,7 +86,7 @@ pub const HEADER: [Field; 14] = [
     listed(1, Fixed(b"A")),          // A2
     listed(2, FileKind),             // A3
     listed(8, Digits(Free)),         // A4
-    listed(8, Digits(SenderBank)),   // A5
+    listed(8, Digits(SendingBank)),  // A5
     listed(27, Text),                // A6
     listed(6, Digits(CreationDate)), // A7
     hidden(4, Blanks),               // A8

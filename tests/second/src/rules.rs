@@ -99,7 +99,7 @@ impl Ledger {
     fn meaning(&mut self, meaning: Meaning, bytes: &[u8], value: u64) -> Result<(), Number> {
         match meaning {
             Meaning::Free => Ok(()),
-            Meaning::SenderBank => demand(self.from_bank || value == 0, Number::Condition),
+            Meaning::SendingBank => demand(self.from_bank || value == 0, Number::Condition),
             Meaning::CreationDate => {
                 self.created = calendar::short_date(value).ok_or(Number::NoDate)?;
                 Ok(())
@@ -205,14 +205,14 @@ mod tests {
     }
 
     #[test]
-    fn the_senders_bank_is_zero_in_a_customers_file_only() {
+    fn the_sending_bank_is_zero_in_a_customers_file_only() {
         for (kind, expected) in [(b"GK", Err(Number::Condition)), (b"LB", Ok(()))] {
             let mut ledger = Ledger::default();
             assert_eq!(ledger.take(FileKind, kind), Ok(()));
-            let sender = Digits(Meaning::SenderBank);
-            assert_eq!(ledger.take(sender, b"20050010"), expected);
-            assert_eq!(ledger.take(sender, b"00000000"), Ok(()));
-            assert_eq!(ledger.take(sender, b"0000000X"), Err(Number::NoDigit));
+            let sending_bank = Digits(Meaning::SendingBank);
+            assert_eq!(ledger.take(sending_bank, b"20050010"), expected);
+            assert_eq!(ledger.take(sending_bank, b"00000000"), Ok(()));
+            assert_eq!(ledger.take(sending_bank, b"0000000X"), Err(Number::NoDigit));
         }
     }
 

@@ -1,9 +1,8 @@
 -- composer::line_at meets its contract: the walk along it tells of the line, or the reading by its record does.
 -- Assumes nothing.
 use native.Mathlib.Omega.{arith}
-use mathlib.Core.Path.{refl, sym, ap, _∙_, subst}
+use mathlib.Core.Path.{refl, sym, ap, _∙_}
 use borrow.Author.Needs.{needs}
-use Rattle.line_reader.specs.Told.{Told}
 use Rattle.composer.specs.declared.LaidPayment.the-variants as laid
 use Rattle.composer.specs.Telling.{laidWhy}
 use Rattle.composer.proofs.StepLaws.{line-inside, line-short, seen-told}
@@ -17,7 +16,8 @@ enum-known-seen : tie.Need-enum-known-seen
 enum-known-seen c = search needs
 
 returns : tie.Need-returns
-returns c = seen-told (subst (Told _ _ _ _ _) (c .before .seen .given .1) (c .before .before .before .read-line .ensures)) (c .before .before .before .before .before .before .pre .0)
+returns c =
+    seen-told _ _ _ _ _ (c .before .before .before .before .before .before .pre .0) (sym (c .before .seen .given .1) ∙ c .before .before .before .read-line .ensures)
 
 enum-told : tie.Need-enum-told
 enum-told c = search needs

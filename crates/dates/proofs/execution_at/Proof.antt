@@ -10,9 +10,9 @@ use Rattle.form.specs.Place.{lookAt}
 use Rattle.form.specs.Reader.{has}
 use Rattle.document.specs.Calendar.{ofDDMMYYYY}
 use Rattle.diskette.specs.Fields.{rulesA11b}
-use Rattle.calendar.specs.Days.{dayOf}
+use Rattle.calendar.specs.Days.{dayOf, dayFrom}
 use Rattle.fields.proofs.LeafLaws.{field-broken, field-fails, field-holds}
-use Rattle.dates.specs.Dates.{dayFrom, executions}
+use Rattle.dates.specs.Dates.{executions}
 use Rattle.dates.specs.declared.Execution.the-variants.{Absent, On}
 use Rattle.dates.specs.declared.ExecutionRead.the-variants.{Is}
 use Rattle.fields.proofs.AnswerLaws.{blank-is, maybe-fails, some-is}

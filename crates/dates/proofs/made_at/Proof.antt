@@ -9,11 +9,11 @@ use Rattle.form.specs.Place.{lookAt}
 use Rattle.form.specs.Reader.{has}
 use Rattle.document.specs.Calendar.{ofDDMMYY}
 use Rattle.diskette.specs.Fields.{rulesA7}
-use Rattle.calendar.specs.Days.{dayOf}
+use Rattle.calendar.specs.Days.{dayOf, dayFrom}
 use Rattle.fields.proofs.AnswerLaws.{number-is, numbers-told}
 use Rattle.fields.proofs.LeafLaws.{field-broken, field-fails, field-holds}
 use Rattle.fields.proofs.WalkLaws.{fails}
-use Rattle.dates.specs.Dates.{dayFrom, days}
+use Rattle.dates.specs.Dates.{days}
 use Rattle.dates.specs.declared.DayRead.the-variants.{Is}
 use Rattle.dates.proofs.Laws.{names-made}
 use Rattle.dates.proofs.made_at.Statement.{statement}

@@ -1,5 +1,5 @@
 -- dtlist::main is safe and ends: what it prints lies in its output, and is the reply to what it has read.
--- Assumes nothing.
+-- Assumes nothing but the contracts of C's `read` and `write`.
 use Prim.Native.Nat.{ℕ}
 use mathlib.Core.Path.{sym, ap, _∙_}
 use mathlib.Core.List.{List}

@@ -1,5 +1,5 @@
 -- dtprobe::serve_all is safe and ends: the measure is the number of turns that are left, and the buffers keep their lengths.
--- Assumes nothing.
+-- Assumes nothing but the contracts of C's `read` and `write`.
 use native.Mathlib.Omega.{arith}
 use mathlib.Core.Path.{_≡_, refl, _∙_}
 use lib.ListN.{length}

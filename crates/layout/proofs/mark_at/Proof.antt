@@ -1,4 +1,4 @@
--- layout::mark_at meets its contract: no mark behind the last part, the marks of the second section, and four in each later one.
+-- layout::mark_at meets its contract: no mark behind the last part, the marks of the second section, and at most four in each later one.
 -- Assumes nothing.
 use native.Mathlib.Omega.{arith}
 use borrow.Author.Needs.{needs}

@@ -3,8 +3,8 @@
 use mathlib.Core.Path.{sym, _∙_}
 use borrow.Author.Needs.{needs}
 use Rattle.fields.proofs.AnswerLaws.{number-is}
-use Rattle.sums.proofs.Laws.{cents-within}
-use Rattle.line_reader.proofs.KeptLaws.{both, each, kept-C10, kept-C11, kept-C12}
+use Rattle.sums.proofs.Laws.{cents-within, cents-over}
+use Rattle.line_reader.proofs.KeptLaws.{both, each, kept-C10, kept-C11, kept-C12, no-number, failed, read-C10, read-C11, read-C12, keeps-C12, amount-tests}
 use Rattle.line_reader.proofs.amount_at.Statement.{statement}
 use Rattle.line_reader.proofs.amount_at.Tie as tie
 
@@ -21,7 +21,7 @@ enum-told : tie.Need-enum-told
 enum-told c = search needs
 
 returns : tie.Need-returns
-returns c = search needs
+returns c = λ x a. no-number _ _ _ (c .before .before .number-at .ensures) (c .enum-told .given .1) (read-C10 a)
 
 add-number-at-2 : tie.Need-add-number-at-2
 add-number-at-2 c = search needs
@@ -36,7 +36,7 @@ enum-told-2 : tie.Need-enum-told-2
 enum-told-2 c = search needs
 
 returns-2 : tie.Need-returns-2
-returns-2 c = search needs
+returns-2 c = λ x a. no-number _ _ _ (c .before .before .number-at2 .ensures) (c .enum-told2 .given .1) (read-C11 a)
 
 add-number-at-3 : tie.Need-add-number-at-3
 add-number-at-3 c = search needs
@@ -51,13 +51,17 @@ enum-told-3 : tie.Need-enum-told-3
 enum-told-3 c = search needs
 
 returns-3 : tie.Need-returns-3
-returns-3 c = search needs
+returns-3 c = λ x a. no-number _ _ _ (c .before .before .number-at3 .ensures) (c .enum-told3 .given .1) (read-C12 a)
 
 bank-code-ok-requires : tie.Need-bank-code-ok-requires
 bank-code-ok-requires c κs = search needs
 
 returns-4 : tie.Need-returns-4
-returns-4 c = search needs
+returns-4 c =
+    let c10 = number-is _ _ _ (c .before .before .before .before .before .before .before .before .before .before .before .before .before .number-at .ensures) (c .before .before .before .before .before .before .before .before .before .before .before .c10 .given .1) .0 in
+    let c11 = number-is _ _ _ (c .before .before .before .before .before .before .before .before .before .number-at2 .ensures) (c .before .before .before .before .before .before .before .c11 .given .1) .0 in
+    let c12 = number-is _ _ _ (c .before .before .before .before .before .number-at3 .ensures) (c .before .before .before .c12 .given .1) .0 in
+    λ x a. amount-tests a c10 c11 c12 (c .before .bank-code-ok .ensures) (c .if1 .taken)
 
 add-requires : tie.Need-add-requires
 add-requires c κs = search needs
@@ -69,7 +73,9 @@ enum-told-4 : tie.Need-enum-told-4
 enum-told-4 c = search needs
 
 returns-5 : tie.Need-returns-5
-returns-5 c = search needs
+returns-5 c =
+    let c12 = number-is _ _ _ (c .before .before .before .before .before .before .before .before .number-at3 .ensures) (c .before .before .before .before .before .before .c12 .given .1) .0 in
+    λ x a. failed (keeps-C12 a c12 .1 .0) (cents-over _ _ (c .before .before .add .ensures) (c .enum-told4 .given .1))
 
 returns-6 : tie.Need-returns-6
 returns-6 c =

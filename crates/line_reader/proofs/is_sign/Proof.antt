@@ -13,7 +13,7 @@ use Rattle.line_reader.proofs.is_sign.Tie as tie
 
 -- as the code tests them
 abbrev told : ℕ → Bool
-told b = (eqb (bitAnd (288226464510246910 / 2 ^ bitAnd b 63) 1) 1 && (leb 32 b && ltb b 96)) || eqb b 126
+told b = (eqb (bitAnd (0x03FF_FC71_3FFF_FFFE / 2 ^ bitAnd b 63) 1) 1 && (leb 0x20 b && ltb b 0x60)) || eqb b 0x7E
 
 are-signs : (b : ℕ) → b < 256 → told b ≡ sign b
 unfolding below

@@ -1,7 +1,8 @@
 -- line_reader::names_at meets its contract: three texts, one behind the other.
 -- Assumes nothing.
 use native.Mathlib.Omega.{arith}
-use Rattle.line_reader.proofs.SeenLaws.{text-is, names-seen}
+use Rattle.line_reader.proofs.TextLaws.{text-on}
+use Rattle.line_reader.proofs.SeenLaws.{text-is, text-none, none-first, none-behind-first, none-second, names-seen}
 use borrow.Author.Needs.{needs}
 use Rattle.line_reader.proofs.names_at.Statement.{statement}
 use Rattle.line_reader.proofs.names_at.Tie as tie
@@ -16,13 +17,15 @@ enum-told : tie.Need-enum-told
 enum-told c = search needs
 
 returns : tie.Need-returns
-returns c = search needs
+returns c = λ e t. text-none (c .before .before .text-at .ensures) (c .enum-told .given .1) (t .first) (t .C14a)
 
 sub-if1 : tie.Need-sub-if1
-sub-if1 c = let t = text-is _ _ _ (c .before .before .before .text-at .ensures) (c .before .c14a .given .1) in omega (arith, t .on)
+sub-if1 c = let t = text-is (c .before .before .before .text-at .ensures) (c .before .c14a .given .1) in omega (arith, text-on t)
 
 returns-2 : tie.Need-returns-2
-returns-2 c = search needs
+returns-2 c =
+    let a = text-is (c .before .before .before .before .text-at .ensures) (c .before .before .c14a .given .1) in
+    none-first a (omega (arith, text-on a))
 
 text-at-requires-2 : tie.Need-text-at-requires-2
 text-at-requires-2 c κs = search needs
@@ -34,21 +37,27 @@ enum-told-2 : tie.Need-enum-told-2
 enum-told-2 c = search needs
 
 returns-3 : tie.Need-returns-3
-returns-3 c = search needs
+returns-3 c =
+    none-behind-first (text-is (c .before .before .before .before .before .before .before .text-at .ensures) (c .before .before .before .before .before .c14a .given .1))
+    (text-none (c .before .before .text-at2 .ensures) (c .enum-told2 .given .1))
 
 sub-if2 : tie.Need-sub-if2
-sub-if2 c = let t = text-is _ _ _ (c .before .before .before .text-at2 .ensures) (c .before .c15 .given .1) in omega (arith, t .on)
+sub-if2 c = let t = text-is (c .before .before .before .text-at2 .ensures) (c .before .c15 .given .1) in omega (arith, text-on t)
 
 returns-4 : tie.Need-returns-4
-returns-4 c = search needs
+returns-4 c =
+    let a = text-is (c .before .before .before .before .before .before .before .before .before .text-at .ensures) (c .before .before .before .before .before .before .before .c14a .given .1) in
+    let b = text-is (c .before .before .before .before .text-at2 .ensures) (c .before .before .c15 .given .1) in
+    none-second a b (omega (arith, text-on b))
 
 text-at-requires-3 : tie.Need-text-at-requires-3
 text-at-requires-3 c κs = search needs
 
 returns-5 : tie.Need-returns-5
 returns-5 c =
-    names-seen _ _ (text-is _ _ _ (c .before .before .before .before .before .before .before .before .before .before .text-at .ensures) (c .before .before .before .before .before .before .before .before .c14a .given .1)) (omega arith)
-    (text-is _ _ _ (c .before .before .before .before .before .text-at2 .ensures) (c .before .before .before .c15 .given .1)) (omega arith) (c .text-at3 .result) (c .text-at3 .ensures)
+    let a = text-is (c .before .before .before .before .before .before .before .before .before .before .text-at .ensures) (c .before .before .before .before .before .before .before .before .c14a .given .1) in
+    let b = text-is (c .before .before .before .before .before .text-at2 .ensures) (c .before .before .before .c15 .given .1) in
+    names-seen a b (omega arith) (omega arith) (c .text-at3 .result) (c .text-at3 .ensures)
 
 pub names-at-spec : {M : Type 1} → statement M
 names-at-spec =

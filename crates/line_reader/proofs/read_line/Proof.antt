@@ -1,11 +1,14 @@
--- line_reader::read_line meets its contract: what was seen, stretch by stretch, is the line of a payment.
+-- line_reader::read_line meets its contract: what was seen, stretch by stretch, is the line of a payment, and a stretch that was not seen is in
+-- no such line.
 -- Assumes nothing.
+use Prim.Native.Nat.{ℕ}
 use native.Mathlib.Omega.{arith}
 use mathlib.Core.Path.{subst}
 use Rattle.fields.specs.Answers.{lettersOf}
-use Rattle.line_reader.specs.Lines.{Names, AllParts}
-use Rattle.line_reader.proofs.SeenLaws.{numbers-is}
+use Rattle.line_reader.specs.Lines.{Names, PartsTo, AllParts}
+use Rattle.line_reader.proofs.SeenLaws.{numbers-is, numbers-none, names-once}
 use Rattle.line_reader.proofs.PaymentLaws.{Seen, line-seen, end-inside}
+use Rattle.line_reader.proofs.ToldLaws.{told-is, told-no}
 use borrow.Author.Needs.{needs}
 use Rattle.line_reader.proofs.read_line.Statement.{statement}
 use Rattle.line_reader.proofs.read_line.Tie as tie
@@ -23,7 +26,7 @@ seen c =
     }
 
 returns : tie.Need-returns
-returns c = search needs
+returns c = told-no _ _ _ _ _ (λ new k e s. omega (arith, s .may, c .if1 .taken))
 
 numbers-at-requires : tie.Need-numbers-at-requires
 numbers-at-requires c κs = search needs
@@ -35,7 +38,7 @@ enum-told : tie.Need-enum-told
 enum-told c = search needs
 
 returns-2 : tie.Need-returns-2
-returns-2 c = search needs
+returns-2 c = told-no _ _ _ _ _ (λ new k e s. numbers-none (c .before .before .numbers-at .ensures) (c .enum-told .given .1) new (s .numbers))
 
 add-names-at : tie.Need-add-names-at
 add-names-at c =
@@ -52,7 +55,7 @@ enum-told-2 : tie.Need-enum-told-2
 enum-told-2 c = search needs
 
 returns-3 : tie.Need-returns-3
-returns-3 c = search needs
+returns-3 c = told-no _ _ _ _ _ (λ new k e s. subst (Names _ _) (c .enum-told2 .given .1) (c .before .before .names-at .ensures) (s .behindTexts) (s .texts))
 
 parts-from-requires : tie.Need-parts-from-requires
 parts-from-requires c κs = search needs
@@ -64,7 +67,11 @@ enum-told-3 : tie.Need-enum-told-3
 enum-told-3 c = search needs
 
 returns-4 : tie.Need-returns-4
-returns-4 c = search needs
+returns-4 c =
+    let a = c .before .before .before .before .before .before .before .before .before .before .before .before .before .args in
+    let texts = subst (Names _ _) (c .before .before .before .before .names .given .1) (c .before .before .before .before .before .before .names-at .ensures) in
+    told-no _ _ _ _ _ (λ new k e s. subst (AllParts _ _) (c .enum-told3 .given .1) (c .before .before .parts-from .ensures) k e
+    (subst (λ (q : ℕ). PartsTo (a .l .now) q 15 k e) (names-once (s .texts) texts) (s .parts)))
 
 bytes-of-requires : tie.Need-bytes-of-requires
 bytes-of-requires c κs = search needs
@@ -73,7 +80,7 @@ add-next : tie.Need-add-next
 add-next c = omega (arith, end-inside (seen c), c .before .before .before .before .before .before .before .before .before .before .before .before .before .before .before .good)
 
 returns-5 : tie.Need-returns-5
-returns-5 c = line-seen (seen c) (c .bytes-of .ensures)
+returns-5 c = told-is (line-seen (seen c) (c .bytes-of .ensures))
 
 pub read-line-spec : {M : Type 1} → statement M
 read-line-spec =

@@ -4,8 +4,8 @@ use mathlib.Core.Path.{sym, _∙_}
 use borrow.Author.Needs.{needs}
 use Rattle.fields.specs.Answers.{lettersOf}
 use Rattle.fields.proofs.AnswerLaws.{number-is}
-use Rattle.sums.proofs.Laws.{accounts-within, bank-codes-within}
-use Rattle.line_reader.proofs.KeptLaws.{both, each, kept-C4, kept-C5, kept-C6, kept-C7a}
+use Rattle.sums.proofs.Laws.{accounts-within, accounts-over, bank-codes-within, bank-codes-over}
+use Rattle.line_reader.proofs.KeptLaws.{both, each, kept-C4, kept-C5, kept-C6, kept-C7a, no-number, failed, read-C4, keeps-C4, read-C5, keeps-C5, read-C6, read-C7a, receiver-tests}
 use Rattle.line_reader.proofs.receiver_at.Statement.{statement}
 use Rattle.line_reader.proofs.receiver_at.Tie as tie
 
@@ -22,7 +22,7 @@ enum-told-2 : tie.Need-enum-told-2
 enum-told-2 c = search needs
 
 returns : tie.Need-returns
-returns c = search needs
+returns c = λ a b r. no-number _ _ _ (c .before .before .number-at .ensures) (c .enum-told2 .given .1) (r .C3)
 
 add-number-at-2 : tie.Need-add-number-at-2
 add-number-at-2 c = search needs
@@ -37,7 +37,7 @@ enum-told-3 : tie.Need-enum-told-3
 enum-told-3 c = search needs
 
 returns-2 : tie.Need-returns-2
-returns-2 c = search needs
+returns-2 c = λ a b r. no-number _ _ _ (c .before .before .number-at2 .ensures) (c .enum-told3 .given .1) (read-C4 r)
 
 add-number-at-3 : tie.Need-add-number-at-3
 add-number-at-3 c = search needs
@@ -52,7 +52,7 @@ enum-told-4 : tie.Need-enum-told-4
 enum-told-4 c = search needs
 
 returns-3 : tie.Need-returns-3
-returns-3 c = search needs
+returns-3 c = λ a b r. no-number _ _ _ (c .before .before .number-at3 .ensures) (c .enum-told4 .given .1) (read-C5 r)
 
 add-number-at-4 : tie.Need-add-number-at-4
 add-number-at-4 c = search needs
@@ -67,7 +67,7 @@ enum-told-5 : tie.Need-enum-told-5
 enum-told-5 c = search needs
 
 returns-4 : tie.Need-returns-4
-returns-4 c = search needs
+returns-4 c = λ a b r. no-number _ _ _ (c .before .before .number-at4 .ensures) (c .enum-told5 .given .1) (read-C6 r)
 
 add-number-at-5 : tie.Need-add-number-at-5
 add-number-at-5 c = search needs
@@ -82,7 +82,7 @@ enum-told-6 : tie.Need-enum-told-6
 enum-told-6 c = search needs
 
 returns-5 : tie.Need-returns-5
-returns-5 c = search needs
+returns-5 c = λ a b r. no-number _ _ _ (c .before .before .number-at5 .ensures) (c .enum-told6 .given .1) (read-C7a r)
 
 add-number-at-6 : tie.Need-add-number-at-6
 add-number-at-6 c = search needs
@@ -97,7 +97,7 @@ enum-told-8 : tie.Need-enum-told-8
 enum-told-8 c = search needs
 
 returns-6 : tie.Need-returns-6
-returns-6 c = search needs
+returns-6 c = λ a b r. no-number _ _ _ (c .before .before .number-at6 .ensures) (c .enum-told8 .given .1) (r .C7b)
 
 bank-code-ok-requires : tie.Need-bank-code-ok-requires
 bank-code-ok-requires c κs = search needs
@@ -109,7 +109,12 @@ key-ok-requires : tie.Need-key-ok-requires
 key-ok-requires c κs = search needs
 
 returns-7 : tie.Need-returns-7
-returns-7 c = search needs
+returns-7 c =
+    let c4 = number-is _ _ _ (c .before .before .before .before .before .before .before .before .before .before .before .before .before .before .before .before .before .before .before .before .before .before .number-at2 .ensures) (c .before .before .before .before .before .before .before .before .before .before .before .before .before .before .before .before .before .before .before .before .c4 .given .1) .0 in
+    let c5 = number-is _ _ _ (c .before .before .before .before .before .before .before .before .before .before .before .before .before .before .before .before .before .before .number-at3 .ensures) (c .before .before .before .before .before .before .before .before .before .before .before .before .before .before .before .before .c5 .given .1) .0 in
+    let c6 = number-is _ _ _ (c .before .before .before .before .before .before .before .before .before .before .before .before .before .before .number-at4 .ensures) (c .before .before .before .before .before .before .before .before .before .before .before .before .c6 .given .1) .0 in
+    let c7a = number-is _ _ _ (c .before .before .before .before .before .before .before .before .before .before .number-at5 .ensures) (c .before .before .before .before .before .before .before .before .c7a .given .1) .0 in
+    λ a b r. receiver-tests r c4 c5 c6 c7a (c .before .before .before .bank-code-ok .ensures) (c .before .before .customer-ok .ensures) (c .before .key-ok .ensures) (c .if1 .taken)
 
 add-requires : tie.Need-add-requires
 add-requires c κs = search needs
@@ -121,7 +126,9 @@ enum-told-9 : tie.Need-enum-told-9
 enum-told-9 c = search needs
 
 returns-8 : tie.Need-returns-8
-returns-8 c = search needs
+returns-8 c =
+    let c5 = number-is _ _ _ (c .before .before .before .before .before .before .before .before .before .before .before .before .before .before .before .before .before .before .before .before .before .number-at3 .ensures) (c .before .before .before .before .before .before .before .before .before .before .before .before .before .before .before .before .before .before .before .c5 .given .1) .0 in
+    λ a b r. failed (keeps-C5 r c5 .1 .0) (accounts-over _ _ (c .before .before .add .ensures) (c .enum-told9 .given .1))
 
 add-requires-2 : tie.Need-add-requires-2
 add-requires-2 c κs = search needs
@@ -133,7 +140,9 @@ enum-told-10 : tie.Need-enum-told-10
 enum-told-10 c = search needs
 
 returns-9 : tie.Need-returns-9
-returns-9 c = search needs
+returns-9 c =
+    let c4 = number-is _ _ _ (c .before .before .before .before .before .before .before .before .before .before .before .before .before .before .before .before .before .before .before .before .before .before .before .before .before .before .before .before .before .number-at2 .ensures) (c .before .before .before .before .before .before .before .before .before .before .before .before .before .before .before .before .before .before .before .before .before .before .before .before .before .before .before .c4 .given .1) .0 in
+    λ a b r. failed (keeps-C4 r c4 .1 .0) (bank-codes-over _ _ (c .before .before .add2 .ensures) (c .enum-told10 .given .1))
 
 returns-10 : tie.Need-returns-10
 returns-10 c =

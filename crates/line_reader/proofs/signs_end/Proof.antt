@@ -1,19 +1,18 @@
--- line_reader::signs_end meets its contract: as far as was looked, all are permitted signs.
+-- line_reader::signs_end meets its contract: as far as was looked, all are permitted signs, and the next byte is none or one too many.
 -- Assumes nothing.
-use Prim.Native.Nat.{_+_, _-_, _≤_}
+use Prim.Native.Nat.{_+_, _-_, _≤_, min}
 use native.Mathlib.Omega.{arith}
 use mathlib.Core.Logic.{⊎-elim}
-use mathlib.Core.Path.{sym, _∙_}
+use mathlib.Core.Path.{_≡_, sym, _∙_}
 use lib.ListN.{length}
 use borrow.Author.Needs.{needs}
-use borrow.Author.Tests.{not-false}
-use Rattle.line_reader.specs.Lines.{SignsTo}
-use Rattle.line_reader.proofs.SignsLaws.{signs-none, signs-more}
+use borrow.Author.Tests.{not-true, not-false}
+use Rattle.line_reader.proofs.SignsLaws.{Looked, looked-none, looked-more, looked-stop, looked-end}
 use Rattle.line_reader.proofs.signs_end.Statement.{statement}
 use Rattle.line_reader.proofs.signs_end.Tie as tie
 
 abbrev Inv-loop : tie.InvT-loop
-Inv-loop l p end i₀ i = (end ≤ length l) × (end ≤ p + 27) × (i ≤ end) × SignsTo l p i
+Inv-loop l p end i₀ i = (end ≡ min (length l) (p + 27)) × (i ≤ end) × Looked l p i
 
 abbrev μ-loop : tie.MeasureT-loop
 μ-loop l p end i₀ i = end - i
@@ -27,8 +26,9 @@ add-end c = search needs
 loop-holds : tie.Need-loop-holds Inv-loop μ-loop
 loop-holds c =
     let a = c .before .before in
-    let s = signs-none (a .args .l .now) (a .args .p) (a .pre) in
-    ⊎-elim (λ w. (omega arith, omega arith, omega arith, s)) (λ w. (omega arith, omega arith, omega arith, s)) (c .if1 .came)
+    let s = looked-none (a .args .l .now) (a .args .p) in
+    let h = a .pre in
+    ⊎-elim (λ w. (omega arith, omega arith, s)) (λ w. (omega arith, omega arith, s)) (c .if1 .came)
 
 shared-slice-read-is-sign : tie.Need-shared-slice-read-is-sign Inv-loop μ-loop
 shared-slice-read-is-sign c = omega arith
@@ -45,15 +45,16 @@ loop-less c = omega arith
 loop-again : tie.Need-loop-again Inv-loop μ-loop
 loop-again c =
     let k = c .before .before .before .before .loop in
-    let a = c .before .before .before .before .before .before .before .args in
     let sign-there = sym (c .before .is-sign .ensures) ∙ not-false _ (c .if2 .left) in
-    (k .inv .0, k .inv .1, omega arith, signs-more (a .l .now) (a .p) (k .i) (k .inv .3) (omega arith) (omega arith) sign-there)
+    (k .inv .0, omega arith, looked-more (k .inv .2) (omega arith) (omega arith) sign-there)
 
 returns : tie.Need-returns Inv-loop μ-loop
-returns c = c .before .loop .inv .3
+returns c = let k = c .before .loop in looked-end (k .inv .2) (omega arith)
 
 returns-2 : tie.Need-returns-2 Inv-loop μ-loop
-returns-2 c = c .before .before .before .before .loop .inv .3
+returns-2 c =
+    let k = c .before .before .before .before .loop in
+    looked-stop (k .inv .2) (omega arith) (sym (c .before .is-sign .ensures) ∙ not-true _ (c .if2 .taken))
 
 pub signs-end-spec : {M : Type 1} → statement M
 signs-end-spec =

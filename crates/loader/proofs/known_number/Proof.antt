@@ -16,7 +16,7 @@ abbrev μ-loop : tie.MeasureT-loop
 μ-loop s p w v₀ i₀ v i = w - i
 
 -- the byte there is a digit
-digit : (c : tie.After-shared-slice-known Inv-loop μ-loop) → let b = c .before .before .before .args in let x = getD (b .s .now) (b .p + c .before .before .loop .i) 0 in (48 ≤ x) × (x ≤ 57)
+digit : (c : tie.After-shared-slice-known Inv-loop μ-loop) → let b = c .before .before .before .args in let x = getD (b .s .now) (b .p + c .before .before .loop .i) 0 in (0x30 ≤ x) × (x ≤ 0x39)
 digit c = let b = c .before .before .before in digit-there _ _ _ (b .pre .0) (b .pre .1 .1) _ (c .before .loop-test .taken)
 
 loop-holds : tie.Need-loop-holds Inv-loop μ-loop

@@ -17,7 +17,7 @@ abbrev μ-loop : tie.MeasureT-loop
 μ-loop out₀ i₀ out i = length out₀ - i
 
 loop-holds : tie.Need-loop-holds Inv-loop μ-loop
-loop-holds c = let n = length (c .args .out .now) in writing-start _ 0 (blanks n) (omega (arith, length-replicate {A = ℕ} n 32))
+loop-holds c = let n = length (c .args .out .now) in writing-start _ 0 (blanks n) (omega (arith, length-replicate {A = ℕ} n 0x20))
 
 slice-write-out : tie.Need-slice-write-out Inv-loop μ-loop
 slice-write-out c = omega arith
@@ -32,8 +32,8 @@ loop-again : tie.Need-loop-again Inv-loop μ-loop
 loop-again c =
     let n = length (c .before .before .args .out .now) in
     let i = c .before .loop .i in
-    let l = length-replicate {A = ℕ} n 32 in
-    writing-more i 32 (c .before .loop .inv) (omega arith) (omega arith) (sym (getD-replicate n i 32 0 (omega arith)))
+    let l = length-replicate {A = ℕ} n 0x20 in
+    writing-more i 0x20 (c .before .loop .inv) (omega arith) (omega arith) (sym (getD-replicate n i 0x20 0 (omega arith)))
 
 same-length : tie.Need-same-length Inv-loop μ-loop
 same-length c = c .before .loop .inv .long
@@ -41,7 +41,7 @@ same-length c = c .before .loop .inv .long
 returns : tie.Need-returns Inv-loop μ-loop
 returns c =
     let old = c .before .before .args .out .now in
-    let l = length-replicate {A = ℕ} (length old) 32 in
+    let l = length-replicate {A = ℕ} (length old) 0x20 in
     writing-end (c .before .loop .inv) (omega arith) ∙ over-all (blanks (length old)) old l
 
 pub blank-spec : {M : Type 1} → statement M

@@ -21,10 +21,10 @@ past2 : (c : tie.After-known-told2) → On (past1 (c .before .before .before .be
 past2 c = pass (past1 (c .before .before .before .before) .1) (c .before .before .before .zeros-at .ensures) (c .before .c9 .given .1)
 
 past3 : (c : tie.After-known-told3) → Next (past2 (c .before .before .before .before) .1) (c .before .c10 .given .0 .0) (c .before .c10 .given .0 .1 .0)
-past3 c = past-ruled (past2 (c .before .before .before .before) .1) (number-is _ _ _ (c .before .before .before .bank-code-at .ensures) (c .before .c10 .given .1))
+past3 c = past-ruled (past2 (c .before .before .before .before) .1) (number-is _ _ _ (c .before .before .before .sender-bank-at .ensures) (c .before .c10 .given .1))
 
 past4 : (c : tie.After-known-told4) → Next (past3 (c .before .before .before .before)) (c .before .c11 .given .0 .0) (c .before .c11 .given .0 .1 .0)
-past4 c = past-ruled (past3 (c .before .before .before .before)) (number-is _ _ _ (c .before .before .before .account-at .ensures) (c .before .c11 .given .1))
+past4 c = past-ruled (past3 (c .before .before .before .before)) (number-is _ _ _ (c .before .before .before .sender-account-at .ensures) (c .before .c11 .given .1))
 
 blanks-at-requires : tie.Need-blanks-at-requires
 blanks-at-requires c κs = search needs
@@ -56,8 +56,8 @@ why-requires-2 c κs = search needs
 returns-2 : tie.Need-returns-2
 returns-2 c = stop passings-told _ (past1 (c .before .before .before .before) .1) (c .before .before .before .zeros-at .ensures) (c .before .enum-told2 .given .1) (c .why2 .ensures)
 
-bank-code-at-requires : tie.Need-bank-code-at-requires
-bank-code-at-requires c κs = search needs
+sender-bank-at-requires : tie.Need-sender-bank-at-requires
+sender-bank-at-requires c κs = search needs
 
 enum-known-c10 : tie.Need-enum-known-c10
 enum-known-c10 c = search needs
@@ -69,10 +69,10 @@ why-requires-3 : tie.Need-why-requires-3
 why-requires-3 c κs = search needs
 
 returns-3 : tie.Need-returns-3
-returns-3 c = stop-ruled numbers-told _ (past2 (c .before .before .before .before) .1) (c .before .before .before .bank-code-at .ensures) (c .before .enum-told3 .given .1) (c .why3 .ensures)
+returns-3 c = stop-ruled numbers-told _ (past2 (c .before .before .before .before) .1) (c .before .before .before .sender-bank-at .ensures) (c .before .enum-told3 .given .1) (c .why3 .ensures)
 
-account-at-requires : tie.Need-account-at-requires
-account-at-requires c κs = search needs
+sender-account-at-requires : tie.Need-sender-account-at-requires
+sender-account-at-requires c κs = search needs
 
 enum-known-c11 : tie.Need-enum-known-c11
 enum-known-c11 c = search needs
@@ -84,7 +84,7 @@ why-requires-4 : tie.Need-why-requires-4
 why-requires-4 c κs = search needs
 
 returns-4 : tie.Need-returns-4
-returns-4 c = stop-ruled numbers-told _ (past3 (c .before .before .before .before)) (c .before .before .before .account-at .ensures) (c .before .enum-told4 .given .1) (c .why4 .ensures)
+returns-4 c = stop-ruled numbers-told _ (past3 (c .before .before .before .before)) (c .before .before .before .sender-account-at .ensures) (c .before .enum-told4 .given .1) (c .why4 .ensures)
 
 cents-into-requires : tie.Need-cents-into-requires
 cents-into-requires c κs = search needs
@@ -106,12 +106,12 @@ amount-at-spec =
     enum-told-2
     why-requires-2
     returns-2
-    bank-code-at-requires
+    sender-bank-at-requires
     enum-known-c10
     enum-told-3
     why-requires-3
     returns-3
-    account-at-requires
+    sender-account-at-requires
     enum-known-c11
     enum-told-4
     why-requires-4

@@ -1,4 +1,4 @@
--- view::first_of meets its contract: the test says which of the two refusals `firstOf` takes.
+-- view::first_of meets its contract: the test says which of the two verdicts `firstOf` takes.
 -- Assumes nothing.
 use borrow.Author.Tests.{eq-eqb, ne-eqb}
 use Rattle.view.specs.Views.{firstOf}

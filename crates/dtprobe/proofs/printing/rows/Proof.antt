@@ -1,5 +1,5 @@
 -- dtprobe::printing::rows is safe and ends: it goes through the column row by row.
--- Assumes nothing.
+-- Assumes nothing but the contract of C's `write`.
 use Prim.Native.Nat.{_-_, _≤_}
 use native.Mathlib.Omega.{arith}
 use lib.ListN.{length}

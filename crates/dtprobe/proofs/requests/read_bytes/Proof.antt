@@ -1,5 +1,5 @@
 -- dtprobe::requests::read_bytes meets its contract: what was read stands at the start of the buffer.
--- Assumes nothing.
+-- Assumes nothing but the contract of C's `read`.
 use native.Mathlib.Omega.{arith}
 use lib.ListN.{drop, length-append}
 use borrow.Author.Needs.{needs}

@@ -1,5 +1,5 @@
 -- dtprobe::requests::read_rows meets its contract: row by row, and the column keeps its length.
--- Assumes nothing.
+-- Assumes nothing but the contract of C's `read`.
 use Prim.Native.Nat.{_-_, _≤_}
 use native.Mathlib.Omega.{arith}
 use mathlib.Core.Path.{_≡_, refl, _∙_}

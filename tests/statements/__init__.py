@@ -1,0 +1,1 @@
+"""The statements of the public functions: whether each says its whole result, and whom it serves."""
