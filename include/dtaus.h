@@ -31,6 +31,13 @@
 extern "C" {
 #endif
 
+// The version of this header: one more with each change of an answer, a figure or a call.
+#define DTAUS_VERSION 1
+
+// The version of the header that belongs to the archive. A program that compares it with
+// DTAUS_VERSION knows that what it was compiled with and what it was linked with belong together.
+uint32_t dtaus_version(void);
+
 // The number that a call returns and puts into result[0]. Fields are examined in the order of the
 // input; the first that is wrong is named. No file reaches 7 or 8: 6 comes before.
 enum dtaus_number {

@@ -1,4 +1,5 @@
-// Tests of the header's numbers: each name has its own, also those that no input here leads to.
+// Tests of the header's constants: each name of a number has its own, also those that no input here
+// leads to, and the version is that of the archive.
 #include "dtaus.h"
 #include "harness.h"
 #include "tests.h"
@@ -15,4 +16,6 @@ void test_header(void) {
     begin("the numbers have their names");
     for (size_t i = 0; i < sizeof in_order / sizeof in_order[0]; i++)
         expect_equal((uint64_t)in_order[i], i, "the number of a name");
+    begin("header and archive belong together");
+    expect_equal(dtaus_version(), DTAUS_VERSION, "the version of the archive");
 }

@@ -6,6 +6,6 @@ use Rattle.calendar.specs.declared.Day.{Day}
 abbrev pub dayOf : Day → document.Day
 dayOf d = record { day = d .day; month = d .month; year = d .year }
 
--- and the day of the code that a day of the rules is
+-- the day of the code that a day of the rules is
 abbrev pub dayFrom : document.Day → Day
 dayFrom d = record { day = d .day; month = d .month; year = d .year }

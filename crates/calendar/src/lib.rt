@@ -83,7 +83,7 @@ fn months_days(year: u16, months: u8) -> u64
     days
 }
 
-// 0 has none before it, and stays 0.
+// The number before n; 0 has none before it, and stays 0.
 fn one_less(n: u16) -> u16
     ensures { λ r. ⌜ r ≡ n - 1 ⌝ }
 {

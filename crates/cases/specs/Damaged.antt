@@ -19,15 +19,15 @@ pub record Damage : Type 0 where
   pub file : List ℕ
   pub refusal : Refusal Name
 
--- M's file with these bytes at that place, and what it is given: the reason, and the field's place, width and name
+-- M's file with a word put at place p, and what it is given: the reason, and the field's place, width and name
 abbrev inM : ℕ → String → Reason → ℕ → ℕ → Name → Damage
 inM p s z q w ν = record { file = put p s fileM; refusal = record { reason = z; place = q; width = w; name = some ν } }
 
--- M's file, cut off after n bytes
+-- M's file, cut off after n bytes, and the field that is not whole: its place, width and name
 abbrev cut : ℕ → ℕ → ℕ → Name → Damage
 cut n q w ν = record { file = take n fileM; refusal = record { reason = short; place = q; width = w; name = some ν } }
 
--- M's file with 15 parts, which is accepted; with these bytes at that place
+-- M's file with 15 parts, which is accepted
 abbrev longM : List ℕ
 longM =
     inTurn (
@@ -45,6 +45,7 @@ longM =
     ∷ []
     )
 
+-- the file of 15 parts with a word put at place p, and what it is given
 abbrev inLong : ℕ → String → Reason → ℕ → ℕ → Name → Damage
 inLong p s z q w ν = record { file = put p s longM; refusal = record { reason = z; place = q; width = w; name = some ν } }
 

@@ -12,7 +12,7 @@ use Rattle.diskette.specs.Limits.{coming}
 use Rattle.listing.specs.Composing.{Composed, made, denied, composePayment}
 use Rattle.cases.specs.Listings.{Case, cases, wordsC, filed}
 
--- what the payments before come to, and the number and the place that M's payment is then given, as the first line
+-- what payments come to, and the number and the place that the line of M's payment is given behind them, its start counted as 0
 pub record Limit : Type 0 where
   pub before : Totals
   pub number : ℕ
@@ -35,7 +35,7 @@ limits =
     ∷ record { before = coming 1 1 (sumLimit - 30_050_020) 1; number = 8; place = 11 }
     ∷ record { before = coming 1 (sumLimit - 7_654_321) 1 1; number = 7; place = 20 }
     ∷ record { before = coming 1 1 1 (mostCents - 12_344); number = 9; place = 72 }
-    -- or just not
+    -- C4, C5 and C12 take their sums just to the limits
     ∷ record { before = coming (mostPayments - 1) (sumLimit - 7_654_322) (sumLimit - 30_050_021) (mostCents - 12_345); number = 0; place = 0 }
     ∷ []
 
@@ -43,7 +43,7 @@ pub limits-hold : map reached limits ≡ map (λ (l : Limit). (l .number, l .pla
 unfolding limits filed
 limits-hold = refl
 
--- each number of a listing is met by a case or, 6 to 8, at these limits
+-- each number of a listing is met by a worked listing or, 6 to 8, at the limits
 pub numbers-met : T (every (oneOf (map (λ (c : Case). c .number) cases ++ map (λ (l : Limit). l .number) limits)) ofListing)
 unfolding cases limits
 numbers-met = tt

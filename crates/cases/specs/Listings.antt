@@ -14,7 +14,7 @@ use Rattle.listing.specs.Lines.{split, trim}
 use Rattle.listing.specs.Composing.{composeHeader, composePayment, composePayments, composeLines, compose}
 use Rattle.listing.specs.Endings.{Ending, writes, refuses, listed, composed}
 
--- what is composed; opened, it computes, and so does what is listed
+-- the file that is composed from a listing; opened, it computes, and so does the listing of a file
 unfoldable pub filed : List ℕ → Ending
 unfolding given toDDMMYY compose composeLines composeHeader composePayments composePayment split readAt lookAt trim listed composed
 filed l = composed (compose l)
@@ -30,12 +30,13 @@ lineOf (word ∷ next ∷ words) = ascii word ++ (ascii "\t" ++ lineOf (next ∷
 abbrev pub wordsA : List String
 wordsA = "A" ∷ "GK" ∷ "20050010" ∷ "00000000" ∷ "MUSTER GMBH" ∷ "150304" ∷ "0001234567" ∷ "0000000000" ∷ "" ∷ []
 
--- up to C16, and with the one part
+-- the line of M's payment up to C16
 abbrev pub wordsToC16 : List String
 wordsToC16 =
     "C" ∷ "00000000" ∷ "30050020" ∷ "0007654321" ∷ "0000000000000" ∷ "51" ∷ "000" ∷ "20050010" ∷ "0001234567" ∷ "00000012345"
     ∷ "MEIER KG" ∷ "MUSTER GMBH" ∷ "RECHNUNG 17" ∷ []
 
+-- the line of M's payment, with its one part
 abbrev pub wordsC : List String
 wordsC = wordsToC16 ++ ("02" ∷ "KUNDE 4" ∷ [])
 
@@ -64,18 +65,19 @@ pub record Case : Type 0 where
   pub number : ℕ
   pub place : ℕ
 
--- field i of A, or of C, is another word; their letters are field 0
+-- M's listing with another word as field i of A; the letter is field 0
 abbrev inA : ℕ → String → ℕ → ℕ → Case
 inA i word n p = record { listing = lineOf (set wordsA i word) ++ lineC; number = n; place = p }
 
+-- M's listing with another word as field i of C; the letter is field 0
 abbrev inC : ℕ → String → ℕ → ℕ → Case
 inC i word n p = record { listing = lineA ++ lineOf (set wordsC i word); number = n; place = p }
 
--- these fields follow C16
+-- M's listing with other fields behind C16
 abbrev behindC16 : List String → ℕ → ℕ → Case
 behindC16 words n p = record { listing = lineA ++ lineOf (wordsToC16 ++ words); number = n; place = p }
 
--- these lines
+-- a listing that is put together from lines
 abbrev lines : List (List ℕ) → ℕ → ℕ → Case
 lines ls n p = record { listing = inTurn ls; number = n; place = p }
 
@@ -87,10 +89,11 @@ times (suc n) xs = xs ++ times n xs
 abbrev purpose : List String
 purpose = "02" ∷ "KUNDE 4" ∷ []
 
--- M's payment with another amount; 100 of the largest amount, and then more: the 101st line begins at 12865, the next at 12993
+-- the line of M's payment with another amount
 abbrev paying : String → List ℕ
 paying cents = lineOf (set wordsC 9 cents)
 
+-- 100 payments of the largest amount, and then more lines: the 101st payment begins at 12865, the next at 12993
 abbrev near : List (List ℕ) → ℕ → ℕ → Case
 near more n p = lines (lineA ∷ times 100 (paying "99999999999" ∷ []) ++ more) n p
 

@@ -11,11 +11,11 @@ use Rattle.cases.specs.Starred.{starred}
 use Rattle.cases.specs.Others.{others}
 use Rattle.cases.specs.Damaged.{Damage, damaged}
 
--- the numbers of files
+-- the numbers that worked files are given
 abbrev pub met : List ℕ
 met = map (λ (c : Case). c .number) (starred ++ others) ++ map (λ (d : Damage). numberOf (d .refusal .reason)) damaged
 
--- those of what follows payments that come to given totals: no file that can be written down here reaches 6, and none at all 7 and 8
+-- the numbers that bytes behind payments with given totals are given: no file that can be written down here reaches 6, and none at all 7 and 8
 abbrev pub metAfter : List ℕ
 metAfter = map (λ (l : Limit). l .number) limits
 

@@ -28,10 +28,11 @@ fourteen =
     ∷ []
     )
 
--- M's payment with another amount; 100 of the largest amount, and then more
+-- M's payment with another amount
 abbrev pub paying : String → List ℕ
 paying cents = put 79 cents paymentM
 
+-- M's A, 100 payments of the largest amount, and then more
 abbrev pub near : List ℕ → List ℕ
 near more = inTurn (headerM ∷ times 100 (paying "99999999999") ∷ more ∷ [])
 

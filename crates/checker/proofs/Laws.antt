@@ -1,4 +1,8 @@
 -- The file as the loop over payments goes through it: from A to the first payment, one payment after another, and E.
+-- The walk is over `payments left kind t`, which is all that may follow payments that come to t, and it is opened once for each way in which the
+-- first field turns out: refused, E's length, a length of C (`first-fails`, `first-end`, `first-payment`). The answer owed counts all payments
+-- of the file; behind A, and behind each payment, it is told anew as what the payments still to come add to the totals so far (`behind-header`,
+-- `payment-more`, by `retold` and the laws of `together`). E adds none (`end-read`).
 use Prim.Native.Nat.{ℕ, zero, suc, _+_, _<_}
 use mathlib.Core.Path.{_≡_, refl, sym, ap, _∙_}
 use mathlib.Core.Logic.{inl, inr}
@@ -67,13 +71,13 @@ module _ {f : List ℕ} {g : FileRead} {p : ℕ} (kind : List ℕ) (t : Totals) 
   first-fails (suc left) w x = stopped-ruled w x
 
   module _ {l q : ℕ} (s : (fieldAt (digits 4) (firstField t) f p ≡ has l) × (q ≡ p + 4)) where
-    -- E's length
+    -- where the first field is E's length, E is read behind it
     pub first-end : (left : ℕ) → Walk (restOn t) f g (payments left kind t) p → l ≡ 128 → Walk (restOn t) f g (end t) q
     unfolding payments
     first-end zero w e = past-ruled w s
     first-end (suc left) w e = rw (eq-eqb l 128 e) at (past-ruled w s)
 
-    -- a length of C
+    -- where the first field is a length of C, a payment is read behind it
     pub first-payment : (left : ℕ) → Walk (restOn t) f g (payments (suc left) kind t) p → (l ≡ 128 → ⊥)
         → Walk (restOn t) f g (payment kind t l >>= behindPayment kind t left) q
     unfolding payments

@@ -1,5 +1,8 @@
 -- What the statements of `check` and `file_at` come to. The answer of `check` meets the three demands; that of `file_at` tells of a file exactly
 -- where a legal document stands, written out.
+-- The statement of `check` is one equation with the outcome of the answer, so each theorem of the form (`diskette.proofs.Promises`) is carried
+-- over it. That of `file_at` is one with what is read from a place on, which stands there written out, and the other way round (`read-legal`,
+-- `legal-read`).
 use Prim.Native.Nat.{ℕ, _≤_}
 use native.Mathlib.Omega.{arith}
 use mathlib.Core.Path.{_≡_, sym, ap, subst, _∙_}
@@ -42,15 +45,15 @@ module _ (f : List ℕ) (r : Checked) (says : Says f r) where
   number-is : r .verdict .number ≡ outcome (answer f) .verdict .number
   number-is = ap (λ (v : Verdict). v .number) verdict-is
 
-  -- 0, or one of the numbers of a check
+  -- the number is 0 or one of those of a check
   pub number-listed : T (oneOf (0 ∷ ofCheck) (r .verdict .number))
   number-listed = subst (λ n. T (oneOf (0 ∷ ofCheck) n)) (sym number-is) (form.number-listed f)
 
-  -- 0 exactly for acceptable files
+  -- the number is 0 exactly for acceptable files
   pub accepts-exactly : (r .verdict .number ≡ 0) ↔ Acceptable f
   accepts-exactly = let z = zero-exactly f in (λ e. z.0 (sym number-is ∙ e), λ x. number-is ∙ z.1 x)
 
-  -- then the place is 0, and count and sums are those of the payments of the one reading
+  -- for an acceptable file the place is 0, and count and sums are those of the payments of the one reading
   pub accepted-figures : (x : Acceptable f) → (r .verdict .place ≡ 0) × (r .count ≡ totals (x .0 .payments) .count) × (r .sums ≡ sumsOf (totals (x .0 .payments)))
   accepted-figures x =
       let t = totals-are f x in (
@@ -59,11 +62,11 @@ module _ (f : List ℕ) (r : Checked) (says : Says f r) where
         ap (λ (y : Checked). y .sums) says ∙ ap sumsOf t,
       )
 
-  -- any other file is refused, with the number and the place of the field that is wrong
+  -- a file that is not acceptable is refused, with the number and the place of the field that is wrong
   pub refused-file : ¬ Acceptable f → RefusedFile f (r .verdict)
   refused-file n = subst (RefusedFile f) (sym verdict-is) (else-refused f n)
 
-  -- and has no figures
+  -- a file that is not acceptable has no figures
   pub refused-figures : ¬ Acceptable f → (r .count ≡ 0) × (r .sums ≡ sumsOf noTotals)
   refused-figures n =
       let t = no-totals f n in
@@ -91,7 +94,7 @@ module _ (f : List ℕ) (p : ℕ) (r : FileRead) (says : SaysOf f p r) where
       → (d : Document) × (readAt document f p ≡ done d q) × (n ≡ totals (d .payments) .count) × (t ≡ sumsOf (totals (d .payments)))
   file-read given = was-read f p says given
 
-  -- they are given exactly where a legal document stands, written out
+  -- count, sums and the place behind E are given exactly where a legal document stands, written out
   pub file-read-exactly : (n q : ℕ) (t : Sums)
       → (r ≡ file.Is n t q) ↔ ((d : Document) × StandsAt f p q d × (n ≡ totals (d .payments) .count) × (t ≡ sumsOf (totals (d .payments))))
   unfolding ofRead

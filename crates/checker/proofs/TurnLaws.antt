@@ -75,14 +75,14 @@ module _ {f : List ℕ} {begin : ℕ} {kind : FileKind} {count : ℕ} {sums : Su
           let e : mostPayments - count ≡ suc (mostPayments - (count + 1)) = omega arith in
           first-payment (lettersOf kind) (totalsOf count sums) s (mostPayments - (count + 1)) (rw e at (turn .rest)) n
 
-      -- it refuses the file
+      -- the payment refuses the file
       pub payment-refuses : {a : PaymentRead} {x r : Refusal} → a ≡ ofRead (paymentsOn sums) (readAt (payment (lettersOf kind) (totalsOf count sums) l) f q)
           → a ≡ paid.Refused x → r ≡ paymentWhy a → file.Refused r ≡ owed f begin
       payment-refuses told given e =
           stopped-part (payment (lettersOf kind) (totalsOf count sums) l) (behindPayment (lettersOf kind) (totalsOf count sums) (mostPayments - (count + 1))) comes
           (payments-told sums) told given e
 
-      -- it has been read
+      -- the payment has been read
       pub turn-more : {a : PaymentRead} → a ≡ ofRead (paymentsOn sums) (readAt (payment (lettersOf kind) (totalsOf count sums) l) f q)
           → {new : Sums} {next : ℕ} → a ≡ paid.Is new next → Turn f begin kind (count + 1) new next
       turn-more told {new} {next} given =

@@ -14,13 +14,13 @@ use Rattle.checker.specs.declared.FileRead.the-variants as file
 abbrev pub checkedOf : Outcome → Checked
 checkedOf o = record { verdict = o .verdict; count = o .totals .count; sums = sumsOf (o .totals) }
 
--- a refused file has no figures
+-- what is given back of a refused file, which has no figures
 abbrev pub refusedWith : Refusal → Checked
 refusedWith r = checkedOf (record { verdict = refusing (r .number) (r .place); totals = noTotals })
 
 -- ---- one file, whatever follows it
 
--- of payments that come to t, with q behind E
+-- the answer for a file whose payments come to t, with q behind E
 abbrev pub fileOf : Totals → ℕ → FileRead
 fileOf t q = file.Is (t .count) (sumsOf t) q
 
@@ -32,6 +32,6 @@ abbrev pub fileWhy : FileRead → Refusal
 fileWhy (file.Is n t q) = refusalOf 0 0
 fileWhy (file.Refused r) = r
 
--- the payments still to come, after those that come to t
+-- how answers tell of the payments still to come, after payments that come to t
 abbrev pub restOn : Totals → Telling (List Payment) FileRead
 restOn t = record { gives = λ ps q. fileOf (together t (totals ps)) q; refuses = file.Refused }

@@ -16,7 +16,7 @@ use payment::PaymentRead;
 use sums::Sums;
 use verdict::Verdict;
 
-// What is given back: the verdict, and what the payments come to; a refused file has no figures.
+// What a check gives back: the verdict, and what the payments come to; a refused file has no figures.
 pub struct Checked {
     pub verdict: Verdict,
     pub count: u64,

@@ -1,5 +1,9 @@
--- A line byte by byte: its tabs part its fields, it begins with a letter and a tab, a field may end in a blank; and the rest of a line of a listing, where the fields
--- so far and those from there on make up all fields.
+-- A line byte by byte: its tabs part its fields, it begins with a letter and a tab, a field may end in a blank; and the rest of a line of a
+-- listing, where the fields so far and those from there on make up all fields.
+-- Two loops count fields, from tab to tab and byte by byte, and both keep the same sum: the fields counted, the last of them just begun, and the
+-- fields of what stands from the place looked at on are all fields and one more (`Counting`, `Resting`). A tab adds a field to the first and
+-- takes one off the second, any other byte changes neither (`count-more`, `rest-tab`, `rest-on`), and at the end one field is left of the
+-- second. The laws of the first two bytes and of the last are by looking at them.
 use Prim.Native.Nat.{ℕ, suc, _+_, _-_, _≤_, _<_, zero}
 use native.Mathlib.Omega.{arith}
 use native.Mathlib.Decide.{decLt}
@@ -63,9 +67,9 @@ blank-last (b ∷ c ∷ cs) h =
     let k : suc (suc (length cs)) - 1 ≡ suc (suc (length cs) - 1) = omega arith in
     rw k (blank-last (c ∷ cs) (omega arith))
 
--- ---- the first two
+-- ---- the first two bytes
 
--- a test that cannot hold
+-- a test that cannot hold is false
 pub refuted : (b : Bool) → (b ≡ true → ⊥) → false ≡ b
 refuted true h = absurd (h refl)
 refuted false h = refl
@@ -109,7 +113,7 @@ onto-length b r (some t ts) = refl
 abbrev pub restFrom : List ℕ → ℕ → List ℕ
 restFrom l p = take (reach lineEnd (drop p l)) (drop p l)
 
--- so many of its fields begin before place i or there
+-- so many fields of the line from p on begin before place i or there
 pub record Resting (l : List ℕ) (p i fields : ℕ) : Type 0 where
   pub from : p ≤ i
   pub few : fields ≤ i + 1

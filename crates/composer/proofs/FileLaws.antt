@@ -1,4 +1,7 @@
 -- The file of a listing that was accepted: A, the payments and E, written one after another.
+-- The document of such a listing is legal (`composed-listing`): so A takes 128 bytes, as E does, the figures have room in E, and the room for
+-- the file is the room for all three. The output is followed through the three writings: it begins with A (`behind-first`), then with A and the
+-- payments (`behind-payments`), then with the file (`file-written`), each stretch written right behind the one before it (`over-next`).
 use Prim.Native.Nat.{ℕ, _+_, _-_, _*_, _≤_, _<_}
 use native.Mathlib.Omega.{arith}
 use native.Mathlib.Nat.{zero-add}
@@ -28,7 +31,7 @@ use Rattle.composer.proofs.ToldLaws.{longest, min-is}
 use Rattle.composer.proofs.FirstLineLaws.{made-lines}
 use Rattle.composer.proofs.WritingLaws.{part-over, head-written, payments-are}
 
--- ---- its length
+-- ---- the file's length
 
 pub file-length : (d : Document) → Legal d → length (write d) ≡ 256 + length (writePayments (d .payments))
 file-length d g =
@@ -49,7 +52,7 @@ payments-small kind (p ∷ ps) a =
     let i = payments-small kind ps a.1 in
     omega arith
 
--- ---- its records
+-- ---- the file's records
 
 module _ {l : List ℕ} {t : Totals} {size : ℕ} (ready : Ready l t size) where
   abbrev d : Document
@@ -79,7 +82,7 @@ module _ {l : List ℕ} {t : Totals} {size : ℕ} (ready : Ready l t size) where
     pub head-is : FormedLine true fieldsOfHeaderLine (take e l) × (lay recordA (behindLetter (split tab (take e l))) ≡ writeHeader (d .header))
     head-is = head-written (take e l) (d .header) (ap (λ n. composeHeader (split tab (take n l))) end-is ∙ made-lines l d (ready .told) .head)
 
-    -- the payments' lines stand behind it
+    -- the payments' lines stand behind the first line
     pub payments-accepted : {rest : ℕ} → rest ≡ size → AcceptedListing l (e + 1) (t .count) rest
     payments-accepted same =
         record {
@@ -90,7 +93,7 @@ module _ {l : List ℕ} {t : Totals} {size : ℕ} (ready : Ready l t size) where
           room = let r = room in omega arith;
         }
 
--- ---- one behind the other
+-- ---- the records one behind the other
 
 module _ {l : List ℕ} {t : Totals} (old : List ℕ) (ready : Ready l t (length old)) {e : ℕ} (ends : e ≡ 0 + reach lineEnd l)
     {first : List ℕ} (laid : first ≡ lay recordA (behindLetter (split tab (take e l)))) where
@@ -106,7 +109,7 @@ module _ {l : List ℕ} {t : Totals} (old : List ℕ) (ready : Ready l t (length
   header-long : length header ≡ 128
   header-long = header-length (ready .document .header) (composed-listing l (ready .document) (ready .told) .0 .header)
 
-  -- behind A
+  -- once A is written, the output begins with it
   behind-first : first ++ drop 128 old ≡ over 0 header old
   behind-first = ap₂ (λ f n. f ++ drop n old) first-is (sym header-long) ∙ sym (over-first header old)
 
@@ -118,7 +121,7 @@ module _ {l : List ℕ} {t : Totals} (old : List ℕ) (ready : Ready l t (length
     same-payments : writePayments (composedPayments (compose l)) ≡ payments
     same-payments = ap writePayments (payments-are l (ready .told))
 
-    -- behind the payments
+    -- once the payments are written, the output begins with A and the payments
     behind-payments : out ≡ over 0 (header ++ payments) old
     behind-payments =
         let h = header-long in

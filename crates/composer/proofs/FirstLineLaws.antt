@@ -1,4 +1,8 @@
 -- The first line of a listing, and the lines behind it.
+-- Where no line is ended the listing is one piece, and composing denies it with 18 or 17 (`one-piece`). Where the first line is ended, composing
+-- is unfolded once: A of that line, and then the payments of the lines behind it (`step`). What the code has told of A is either the refusal of
+-- the whole listing (`listing-refused`), or leaves what is owed of the payments' lines (`listing-read`); there the kind of file that the code
+-- keeps has the letters of A3. `made-lines` takes the same step for a listing that is accepted, and gives back both pieces.
 use Prim.Native.Nat.{ℕ, suc, _+_, _≤_, _<_}
 use native.Mathlib.Decide.{decLt}
 use native.Mathlib.Omega.{arith}

@@ -1,4 +1,8 @@
 -- The fields of a line one by one: whether the line has its form, and where the field of a place of its record stands.
+-- Two loops go along the fields of a line, field i at q (`Stand`), and each keeps that the definition's answer for the whole line is its answer
+-- for the fields from i on (`Forming`, `Seeking`). One turn takes one cell and one field off that rest (`stand-here`), so the answer is that of
+-- field i or of what is behind it; behind the last field nothing is left (`no-more`). That the code's test of a width is the form's is by the
+-- cases of a field's kind (`wide-as`).
 use Prim.Native.Nat.{ℕ, zero, suc, _+_, _-_, _≤_, _<_}
 use native.Mathlib.Numerals.{add-one}
 use native.Mathlib.Omega.{arith}
@@ -51,7 +55,7 @@ wide-as p (choice w words) n = or-false (eqb n w)
 formed-as : (c : Cell) (t : List ℕ) → fieldFormed (c .kind) t ≡ formedAs (cellOf (some c)) t
 formed-as c t = ap (λ (b : Bool). b && not (endsInBlank t)) (sym (wide-as (c .place) (c .kind) (length t)))
 
--- ---- what stands at i
+-- ---- element i of a list
 
 first-of : {A : Type 0} (l : List A) (n i : ℕ) → i < n → n ≤ length l
     → (a : A) × (getElem? l i ≡ some a) × (drop i (take n l) ≡ a ∷ drop (suc i) (take n l))
@@ -76,7 +80,7 @@ all-fields x = by (split tab x) (split-some tab x)
     by : (ts : List (List ℕ)) → Some ts → length ts ≡ suc (length (behindLetter ts))
     by ts (some u us) = refl
 
--- one of them is field i, which stands at q
+-- field i of a line of n fields stands at q
 pub record Stand (head : Bool) (n : ℕ) (x : List ℕ) (i q : ℕ) : Type 0 where
   pub few : n ≤ length (cellsOf head)
   pub all : length (fieldsOf x) ≡ n
@@ -84,7 +88,7 @@ pub record Stand (head : Bool) (n : ℕ) (x : List ℕ) (i q : ℕ) : Type 0 whe
   pub at : At x (fieldsOf x) i q
 
 module _ {head : Bool} {n : ℕ} {x : List ℕ} {i q : ℕ} (w : Stand head n x i q) where
-  -- it ends at e
+  -- field i ends at e
   pub stand-ends : (e : ℕ) → e ≡ q + reach tab (drop q x) → (q ≤ e) × (e ≤ length x)
   stand-ends e r = let f = at-field e (w .at) r in (f.0, f.1)
 
@@ -93,7 +97,7 @@ module _ {head : Bool} {n : ℕ} {x : List ℕ} {i q : ℕ} (w : Stand head n x 
       let a = at-next e (w .at) r (omega arith) in
       (a.0, record { few = w .few; all = w .all; before = omega arith; at = a.1 })
 
-  -- its cell is c
+  -- the cell of field i is c
   stand-here : (e : ℕ) → e ≡ q + reach tab (drop q x) → (c : CodeCell) → c ≡ cellAt head i
       → (a : Cell) × (cellOf (some a) ≡ c) × (drop i (take n (cellsOf head)) ≡ a ∷ drop (i + 1) (take n (cellsOf head)))
       × (drop i (fieldsOf x) ≡ take (e - q) (drop q x) ∷ drop (i + 1) (fieldsOf x))
@@ -102,18 +106,18 @@ module _ {head : Bool} {n : ℕ} {x : List ℕ} {i q : ℕ} (w : Stand head n x 
       let f = from-there (fieldsOf x) i (take (e - q) (drop q x)) (at-field e (w .at) r .2) in
       rw (add-one i) (a.0, ap cellOf (sym a.1) ∙ sym is, a.2, f)
 
-  -- the last of them has the last cell
+  -- behind the last field no cell is left
   no-more : i + 1 ≡ n → drop (i + 1) (take n (cellsOf head)) ≡ []
   no-more h = drop-of-length-le (take n (cellsOf head)) {i = i + 1} (omega (arith, length-take-le n (cellsOf head) (w .few)))
 
--- no line has more than that of a payment with the most parts
+-- no line has more fields than that of a payment with the most parts
 pub cells-few : (head : Bool) → length (cellsOf head) ≤ fieldsWith mostParts
 cells-few true = lit≤ tt
 cells-few false = lit≤ tt
 
 -- ---- the form of the line
 
--- from field i on
+-- the fields from field i on have their form
 abbrev formedFrom : Bool → ℕ → List ℕ → ℕ → Bool
 formedFrom head n x i = formed (drop i (take n (cellsOf head))) (drop i (fieldsOf x))
 
@@ -137,7 +141,7 @@ module _ (head : Bool) (n : ℕ) (x : List ℕ) (pre : (0 < n) × (n ≤ length 
         rest = rw (letter-parted head x b, is-true (same (letterOf head) (letterOf head)) (same-self (letterOf head)));
       }
 
--- field i is as c says, or not
+-- field i has the form that the cell c asks for, or not
 module _ {head : Bool} {n : ℕ} {x : List ℕ} {i q : ℕ} (w : Forming head n x i q) (e : ℕ) (r : e ≡ q + reach tab (drop q x))
     (c : CodeCell) (is : c ≡ cellAt head i) where
   form-here : (b : Bool) → b ≡ formedAs c (take (e - q) (drop q x)) → lineFormed head n (split tab x) ≡ b && formedFrom head n x (i + 1)
@@ -161,11 +165,11 @@ module _ {head : Bool} {n : ℕ} {x : List ℕ} {i q : ℕ} (w : Forming head n 
 
 -- ---- where a field of the record stands
 
--- the field of place p, if it is field i or a later one
+-- where the field of place p stands, if it is field i or a later one
 abbrev placeFrom : Bool → ℕ → List ℕ → ℕ → ℕ → ℕ → ℕ
 placeFrom head n x p i q = inLine (drop i (take n (cellsOf head))) (drop i (fieldsOf x)) q p
 
--- it is none of the fields before field i
+-- the field of place p is none of those before field i
 pub record Seeking (head : Bool) (n : ℕ) (x : List ℕ) (p i q : ℕ) : Type 0 where
   pub stand : Stand head n x i q
   pub rest : placeIn head n (split tab x) p ≡ placeFrom head n x p i q

@@ -1,4 +1,8 @@
 -- A record while its line's fields are put in, one after another: each puts its bytes where the record was blank.
+-- `lay ps (take i ts)` is the record with its first i fields, blank where the others will stand. Cell i is looked for piece by piece, and what
+-- is ahead of it stays as it is (`step`, by induction over the pieces, with `further`). At the cell stand blanks, and field i put into them
+-- makes the record with one field more, be it made as wide as its cell or shorter, since the blanks behind it are there already (`fills-padded`,
+-- `fills-itself`).
 use Prim.Native.Nat.{ℕ, zero, suc, _+_, _≤_}
 use native.Mathlib.Omega.{arith}
 use mathlib.Core.Path.{_≡_, refl, sym, ap, _∙_, subst}
@@ -19,7 +23,7 @@ use Rattle.output.proofs.OverLaws.{over-room, over-first, over-here, over-behin
 abbrev pub Fills : ℕ → List ℕ → List ℕ → Type 0
 Fills w bs t = (rest : List ℕ) → over 0 bs (blanks w ++ rest) ≡ pad w t ++ rest
 
--- the field made wide does
+-- a field made as wide as its blanks fills them
 pub fills-padded : (w : ℕ) (t : List ℕ) → Fills w (pad w t) t
 fills-padded w t rest = over-here (blanks w) (pad w t) rest (length-replicate {A = ℕ} w 0x20 ∙ sym (pad-length w t))
 
@@ -33,7 +37,7 @@ blanks-behind w v [] rest h g = ap (λ (l : List ℕ). l ++ rest) (sym (blanks-f
 blanks-behind zero v (b ∷ t) rest h g = absurd (omega arith)
 blanks-behind (suc w) v (b ∷ t) rest h g = ap (λ (l : List ℕ). b ∷ l) (blanks-behind w v t rest (omega arith) (omega arith))
 
--- so does the field itself
+-- a field that is no wider than its blanks fills them
 pub fills-itself : (w : ℕ) (t : List ℕ) → length t ≤ w → Fills w t t
 fills-itself w t h rest = over-first t (blanks w ++ rest) ∙ blanks-behind w w t rest h (omega arith)
 
@@ -46,7 +50,7 @@ record Step (p : ℕ) (ps : List Piece) (ts : List (List ℕ)) (i : ℕ) (c : Ce
   inside : offset + width (c .kind) ≤ span ps
   put : over offset bs (lay ps (take i ts)) ≡ lay ps (take (suc i) ts)
 
--- behind a first piece
+-- what is written behind a first piece leaves it as it was
 further : (n o : ℕ) (a bs old new : List ℕ) → length a ≡ n → over o bs old ≡ new → over (n + o) bs (a ++ old) ≡ a ++ new
 further n o a bs old new l e = rw (← l, over-behind o a bs old, e)
 
@@ -82,7 +86,7 @@ step p (told κ ∷ ps) (u ∷ us) (suc i) c bs t e f fills =
 
 -- field i put where cell i stands
 module _ (ps : List Piece) (ts : List (List ℕ)) (i : ℕ) (c : Cell) (t : List ℕ) (e : getElem? (cells 0 ps) i ≡ some c) (f : getElem? ts i ≡ some t) where
-  -- there is room for it
+  -- there is room for field i
   pub lay-room : c .place + width (c .kind) ≤ length (lay ps (take i ts))
   lay-room =
       let w = width (c .kind) in
@@ -95,7 +99,7 @@ module _ (ps : List Piece) (ts : List (List ℕ)) (i : ℕ) (c : Cell) (t : List
       let o : c .place ≡ s .offset = omega (arith, s .place) in
       rw o (s .put)
 
-  -- made as wide as its cell
+  -- field i made as wide as its cell
   pub lay-step : overIfRoom (c .place) (pad (width (c .kind)) t) (lay ps (take i ts)) ≡ lay ps (take (suc i) ts)
   lay-step =
       let w = width (c .kind) in

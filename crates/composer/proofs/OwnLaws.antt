@@ -1,4 +1,8 @@
--- What A and C have of their own, and all of E: written into blanks one after another, it makes the record that no field has been put into yet, and E.
+-- What A and C have of their own, and all of E: written into blanks one after another, it makes the record that no field has been put into yet,
+-- and E.
+-- A is computed, and so is C, for each number of parts from 0 to 15 (`laid-A`, `laid-C`). E cannot be, since its figures may be any: it is taken
+-- as a record with five fields that are told (`recordE`). What it has of its own is computed too, and each figure put into it is one field more
+-- (`figure`, by `lay-step`), in which no digit is lost, since the figure has room in E.
 use Prim.Native.Nat.{ℕ, _*_, _%_, _^_, _≤_, suc, _<_}
 use native.Mathlib.Omega.{arith}
 use native.Mathlib.Nat.{mod-eq-of-lt}
@@ -33,7 +37,7 @@ own-A l e f g h = h ∙ ap (overIfRoom place.A12 _) (g ∙ ap (overIfRoom place.
 
 -- ---- C
 
--- as it is written, with k parts
+-- what a C of k parts has of its own, as it is written
 abbrev ownOfC : ℕ → List ℕ
 ownOfC k =
     overIfRoom place.C18 (numeral width.C18 (k % 10 ^ width.C18)) (
@@ -55,6 +59,9 @@ own-C {k = k} few l h₁ h₂ h₃ h₄ h₅ h₆ =
     let begun = h₂ ∙ ap (overIfRoom place.C1 _) (h₁ ∙ ap blanks l) in
     h₆ ∙ ap (overIfRoom place.C18 _) (h₅ ∙ ap (overIfRoom place.C17a _) (h₄ ∙ ap (overIfRoom place.C9 _) (h₃ ∙ ap (overIfRoom place.C2 _) begun))) ∙ laid-C k few
 
+-- ---- E
+
+-- E as a record: what it has of its own, and its figures as fields
 abbrev recordE : List Piece
 recordE =
     own (ascii "0128")  -- E1

@@ -1,5 +1,5 @@
--- What the statement of `compose` comes to: it admits one answer; a refused call leaves the output as it was; after any other, the output begins with
--- the one file whose listing was given, and is behind it as it was. The listing of an accepted file gives that file back.
+-- What the statement of `compose` comes to: it admits one answer; a refused call leaves the output as it was; after any other, the output begins
+-- with the one file whose listing was given, and is behind it as it was. The listing of an accepted file gives that file back.
 use Prim.Native.Nat.{ℕ, _≤_, _<_}
 use mathlib.Core.Path.{_≡_, refl, sym, ap, subst, _∙_}
 use mathlib.Core.Logic.{_↔_, _≢_}
@@ -60,11 +60,11 @@ module _ (l old : List ℕ) where
     refused-as v e = endings.refused-as (composed (compose l)) old r new says (denied-ends e)
 
     module _ (d : Document) (e : compose l ≡ made d) where
-      -- an accepted one is answered 16 at 0 where the output is shorter than the file
+      -- an accepted listing is answered 16 at 0 where the output is shorter than the file
       pub no-room-as : length old < length (write d) → r ≡ record { verdict = refusing 16 0; length = 0 }
       no-room-as = endings.no-room-as (composed (compose l)) old r new says (made-ends e)
 
-      -- else the length given is that of the file, and the output begins with it
+      -- where the output has room for the file, the length given is that of the file, and the output begins with it
       pub file-is : length (write d) ≤ length old → (r ≡ record { verdict = accepting; length = length (write d) }) × (take (r .length) new ≡ write d)
       file-is = endings.written-as (composed (compose l)) old r new says (made-ends e)
 

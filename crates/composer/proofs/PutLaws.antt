@@ -1,4 +1,8 @@
 -- One turn of the loop that puts a line's fields into a record: the next field of the line, put where it stands in the record.
+-- The loop keeps `Layable`: the line has its form, field i stands at q, and the record has what is its own and the fields before i. Field i is
+-- no wider than its cell, because the line has its form, so there is room for it and it makes the record with one field more (`one-more`, by
+-- `lay-over`); the walk goes on behind its tab (`put-more`). The numbers of a payment stand at fixed places of the line and are put without that
+-- walk (`put-number`). Copying one field byte by byte keeps `Copying`: i bytes of it are in the record, and no tab was among them.
 use Prim.Native.Nat.{ℕ, suc, _+_, _-_, _≤_, _<_}
 use native.Mathlib.Numerals.{add-one}
 use native.Mathlib.Omega.{arith}
@@ -49,7 +53,7 @@ module _ {head : Bool} {k n : ℕ} {x out : List ℕ} {i q : ℕ} (h : Layable h
   pub put-long : (ts : List (List ℕ)) {new : List ℕ} → new ≡ lay (recordOf head k) ts → length new ≡ length out
   put-long ts e = ap length e ∙ lay-length (recordOf head k) ts ∙ sym (ap length (h .laid) ∙ lay-length (recordOf head k) (take i (fieldsOf x)))
 
-  -- its cell is c
+  -- the cell of field i is c
   module _ (c : CodeCell) (is : c ≡ cellAt head i) where
     cell : (a : Cell) × ((c ≡ cellOf (some a)) × (getElem? (cells 0 (recordOf head k)) i ≡ some a))
     cell =
@@ -59,7 +63,7 @@ module _ {head : Bool} {k n : ℕ} {x out : List ℕ} {i q : ℕ} (h : Layable h
     fits : (e : ℕ) → e ≡ q + reach tab (drop q x) → e - q ≤ c .width
     fits e r = narrow c (e - q) (field-wide head n x (h .line) walk (h .left) e r c is)
 
-    -- there is room for it
+    -- there is room for field i
     pub put-room : c .place + reach tab (drop q x) ≤ length out
     put-room =
         let a = cell in
@@ -69,7 +73,7 @@ module _ {head : Bool} {k n : ℕ} {x out : List ℕ} {i q : ℕ} (h : Layable h
         let w = ap (λ (y : CodeCell). y .width) (a .1 .0) in
         omega (arith, fits e refl, ap length (h .laid))
 
-    -- it ends at e
+    -- field i ends at e
     module _ (e : ℕ) (r : e ≡ q + reach tab (drop q x)) where
       pub put-inside : (i + 1 ≡ n → ⊥) → e < length x
       put-inside l = at-next e walk r (omega (arith, h .left, formed-count head n x (h .line))) .0
@@ -105,7 +109,7 @@ module _ {k : ℕ} {x old : List ℕ} (h : Layable false k (fieldsWith k) x old 
   pub numbers-inside : line.texts ≤ length x
   numbers-inside = texts-inside (fieldsWith k) x (h .line) (omega arith)
 
-  -- all of them are put: the texts are to come
+  -- all numbers are put: the texts are to come
   pub numbers-put : {new : List ℕ} → new ≡ lay (recordC k) (take numbersOfPaymentLine (fieldsOf x)) → Layable false k (fieldsWith k) x new numbersOfPaymentLine line.texts
   numbers-put e =
       let w = number-at (fieldsWith k) x (h .line) (omega arith) numbersOfPaymentLine (omega arith) in
@@ -151,7 +155,7 @@ module _ (x : List ℕ) (q : ℕ) where
       }
 
   module _ {old out : List ℕ} {p i : ℕ} (w : Copying x old q p out i) where
-    -- there is room for one more
+    -- there is room for one byte more
     pub copy-room : q + i < length x → (getD x (q + i) 0 ≡ tab → ⊥) → p + i < length out
     copy-room h n =
         let on = reach-on tab x (q + i) h n in

@@ -1,4 +1,8 @@
 -- The lines of payments as the loop over them goes: where it stands, what it owes, and how a line takes it on or ends it.
+-- The loop keeps `Reading`: what is to be told of all lines is what is owed of the lines from p on, after the payments so far. One line unfolds
+-- composing once (`stepped`). Where it tells a payment, the payment's sums and bytes pass from what is owed to what is had (`told-more`,
+-- `reading-more`); where it is refused, its refusal is that of the whole (`reading-refused`). A payment is told only where fewer than 9,999,999
+-- came before it (`one-more`, by `payment-heard`): so the loop ends, and count and bytes stay small.
 use Prim.Native.Nat.{ℕ, _+_, _-_, _*_, _≤_, _<_}
 use native.Mathlib.Omega.{arith}
 use native.Mathlib.Nat.{add-assoc, add-zero}
@@ -90,7 +94,7 @@ module _ {l : List ℕ} {kind : FileKind} {start count : ℕ} {sums : Sums} {siz
     stepped : composePayments (lettersOf kind) t p (split lineEnd (drop p l)) ≡ onward l p e (reading .inside) ends more (lettersOf kind) t (composePayment (lettersOf kind) t p (split tab (lineTo l p e)))
     stepped = step l p e (reading .inside) ends more (lettersOf kind) t
 
-    -- it tells a payment
+    -- the line at p tells a payment
     module _ {new : Sums} {bytes : ℕ} (h : Heard (lettersOf kind) t sums new p bytes (lineTo l p e)) where
       abbrev q : Payment
       q = h .payment
@@ -122,7 +126,7 @@ module _ {l : List ℕ} {kind : FileKind} {start count : ℕ} {sums : Sums} {siz
                 ∙ ap₂ (λ (s : Sums) (n : ℕ). owed l (lettersOf kind) (totalsOf (count + 1) s) (size + n) (e + 1)) (sym (h .added)) (sym (h .size));
           }
 
-    -- it is refused
+    -- the line at p is refused
     pub reading-refused : {r : Refusal} {v : Verdict} → composePayment (lettersOf kind) t p (split tab (lineTo l p e)) ≡ denied v → r ≡ refusalOf (v .number) (v .place)
         → lines.Refused r ≡ owed l (lettersOf kind) noTotals 0 start
     reading-refused d w = ap lines.Refused w ∙ sym (reading .rest ∙ ap (paymentsTold t size) (stepped ∙ ap (onward l p e (reading .inside) ends more (lettersOf kind) t) d))

@@ -1,5 +1,9 @@
 -- One line after another: where the line at a place of the listing ends, what follows it, and that a payment seen in one walk is told as by its
 -- record.
+-- Either no line end follows p, and what stands there is the last piece (`last-piece`); or the listing from p on parts into the line and the
+-- lines behind it (`lines`). Then composing the payments, and what the walk tells of them, are each unfolded by that one line (`step`,
+-- `seen-here`). The walk tells what composing makes of the line, and only of a line that is ended, so what it has seen is what the record tells
+-- (`seen-told`).
 use Prim.Native.Nat.{ℕ, suc, _+_, _-_, _^_, _≤_, _<_}
 use native.Mathlib.Omega.{arith}
 use native.Mathlib.Decide.{decLe}
@@ -33,7 +37,7 @@ not-empty (b ∷ bs) h = refl
 abbrev pub lineTo : List ℕ → ℕ → ℕ → List ℕ
 lineTo l p e = take (e - p) (drop p l)
 
--- it is no longer than where it ends
+-- places in a line are no larger than where it ends, so that they fit into 64 bits
 pub line-short : (l : List ℕ) (p e : ℕ) → p ≤ e → e ≤ length l → e + 1 < 2 ^ 64 → p + length (lineTo l p e) + 1 < 2 ^ 64
 line-short l p e h i g = let n : length (lineTo l p e) ≡ e - p = length-take-le (e - p) (drop p l) (omega (arith, length-drop p l)) in omega arith
 
@@ -70,7 +74,7 @@ module _ (l : List ℕ) (p e : ℕ) (inside : p ≤ length l) (ends : e ≡ p + 
         omega arith
 
     module _ (letters : List ℕ) (t : Totals) where
-      -- what follows the line of a payment, whose place is m
+      -- what follows the line of a payment, where the next line's place is m
       abbrev following : ℕ → Payment → Composed (List Payment)
       following m q = andThen (composePayments letters (adding t q) m (split lineEnd (drop (e + 1) l))) (λ qs. made (q ∷ qs))
 

@@ -1,4 +1,8 @@
 -- What the code tells of the line of A and of the line of a payment.
+-- The code goes as composing is defined: the form first, then the record that the line stands for is laid out and read. So there is one law for
+-- a line without its form, one for a record that is refused and one for a record that is read, for A and for a payment, by `line-denied`,
+-- `line-refuses` and `line-heard`. A payment's record depends on the number of parts that its line tells (`as-told`), and that number gives its
+-- bytes in the file too (`payment-accepts`).
 use Prim.Native.Nat.{ℕ, _+_, _-_, _*_, _/_, _≤_, min}
 use native.Mathlib.Omega.{arith}
 use mathlib.Core.Path.{_≡_, refl, sym, ap, ap₂, _∙_}
@@ -59,7 +63,7 @@ module _ (ts : List (List ℕ)) (q : ℕ) where
 pub few : (n : ℕ) → partsOf n ≤ mostParts
 few n = omega arith
 
--- no record of a payment is longer
+-- no record of a payment is longer than one with the most parts
 pub longest : (k : ℕ) → 128 * section (min k mostParts) ≤ 128 * section mostParts
 longest k = by (leb (min k mostParts) 2)
   where

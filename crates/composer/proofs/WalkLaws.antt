@@ -1,4 +1,7 @@
 -- The walk from field to field of a line: where the first field stands, where a field ends, and where the next one begins.
+-- `At x ts i q` is what the walk keeps: what stands from q on, parted at its tabs, are the fields from field i on. The first field stands behind
+-- the letter and its tab (`at-first`). A field reaches to the next tab or to the end of the line; parted there it is the first of these fields
+-- (`at-field`), and the next begins behind that tab (`at-next`), which must be there as long as a field is still to come.
 use Prim.Native.Nat.{ℕ, zero, suc, _+_, _-_, _≤_, _<_}
 use native.Mathlib.Decide.{decLt}
 use native.Mathlib.Omega.{arith}
@@ -24,7 +27,7 @@ use Rattle.composer.specs.Telling.{lineFormed, behindLetter, FormedLine}
 
 -- ---- the letter
 
--- the line begins with it and a tab
+-- the line begins with its letter and a tab
 abbrev pub begins : Bool → List ℕ → Bool
 begins head x = same (letterOf head ++ (tab ∷ [])) (take line.first x)
 
@@ -79,7 +82,7 @@ pub record At (x : List ℕ) (ts : List (List ℕ)) (i q : ℕ) : Type 0 where
   pub inside : q ≤ length x
   pub here : split tab (drop q x) ≡ drop i ts
 
--- of a line of which only the beginning is known
+-- the first field, in a line of which only the beginning is known
 pub at-begun : (head : Bool) (x : List ℕ) → begins head x ≡ true → At x (behindLetter (split tab x)) 0 line.first
 at-begun head x h = record {
   inside = omega (arith, letter-long head, length-append (letterOf head) (tab ∷ drop line.first x), ap length (letter-first head x h));
@@ -96,7 +99,7 @@ element [] (suc i) a rest e = cc
 element (b ∷ bs) zero a rest e = cc
 element (b ∷ bs) (suc i) a rest e = element bs i a rest e
 
--- the field ends at e
+-- field i ends at e
 module _ {x : List ℕ} {ts : List (List ℕ)} {i q : ℕ} (e : ℕ) (w : At x ts i q) (r : e ≡ q + reach tab (drop q x)) where
   apart : e - q ≡ reach tab (drop q x)
   apart = omega arith

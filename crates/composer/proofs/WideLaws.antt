@@ -1,4 +1,8 @@
 -- How wide the fields of a line of its form are: none is wider than in the record, and the numbers with which a payment's line begins are as wide.
+-- A line of its form has in each field a width that the field's cell allows (`each-wide`, by induction over cells and fields); a cell that is
+-- neither text nor optional allows its own alone. So each number of a payment's line ends where its width does, and the next begins behind a
+-- tab: by induction number i stands at the place that the layout has for it (`number-at`, with `numbers-next` computed), and the first text
+-- stands behind all of them.
 use Prim.Native.Nat.{ℕ, zero, suc, _+_, _-_, _≤_, _<_}
 use native.Mathlib.Numerals.{add-one}
 use native.Mathlib.Omega.{arith}
@@ -26,9 +30,9 @@ use Rattle.composer.specs.Telling.{wideAs, lineFormed, behindLetter, For
 use Rattle.composer.proofs.WalkLaws.{formed-count, At, at-first, at-field, at-next}
 use Rattle.composer.proofs.FormLaws.{fieldsOf, all-fields, wide-as}
 
--- ---- by its cell
+-- ---- the width of a field, by its cell
 
--- no field is wider
+-- no field is wider than its cell
 pub narrow : (c : CodeCell) (n : ℕ) → T (wideAs c n) → n ≤ c .width
 narrow c n h = ⊎-elim full (λ g. ⊎-elim short none (or-cases mayBeShort mayMiss g)) (or-cases (eqb n (c .width)) (mayBeShort || mayMiss) h)
   where
@@ -47,7 +51,7 @@ narrow c n h = ⊎-elim full (λ g. ⊎-elim short none (or-cases mayBeShort may
     none : T (c .optional && eqb n 0) → n ≤ c .width
     none t = omega (arith, eqb-true n 0 (is-true _ (and-both (c .optional) (eqb n 0) t .1)))
 
--- a number is as wide
+-- a number is as wide as its cell
 full-width : (n w : ℕ) → T (eqb n w || false) → n ≡ w
 full-width n w h = ⊎-elim (λ t. eqb-true n w (is-true _ t)) (λ t. absurd t) (or-cases (eqb n w) false h)
 
@@ -75,7 +79,7 @@ behind-formed : (head : Bool) (n : ℕ) (ts : List (List ℕ)) → lineFormed he
 behind-formed head n [] h = absurd (T-of h)
 behind-formed head n (t ∷ ts) h = and-both (same (letterOf head) t) (formed (take n (cellsOf head)) ts) (T-of h) .1
 
--- field i, which stands at q and ends at e
+-- field i, which stands at q and ends at e, has a width that its cell c allows
 pub field-wide : (head : Bool) (n : ℕ) (x : List ℕ) → FormedLine head n x → {i q : ℕ} → At x (fieldsOf x) i q → i < n
     → (e : ℕ) → e ≡ q + reach tab (drop q x) → (c : CodeCell) → c ≡ cellAt head i → T (wideAs c (e - q))
 field-wide head n x f {i} {q} w before e r c is =
@@ -90,7 +94,7 @@ field-wide head n x f {i} {q} w before e r c is =
 
 -- ---- the numbers of a payment
 
--- where in the line they stand, and the field behind them
+-- where in the line the numbers stand, and the field behind them
 abbrev pub lineAt : ℕ → ℕ
 lineAt i = getD (line.numbersOfLine ++ (line.texts ∷ [])) i 0
 
@@ -110,7 +114,7 @@ module _ (n : ℕ) (x : List ℕ) (f : FormedLine false n x) (some-left : number
       let k = numbers-full i (e - lineAt i) h (field-wide false n x f w (omega arith) e refl (fieldOfC i) (fields-of-C i (omega arith))) in
       omega arith
 
-  -- each field stands at its place
+  -- number i stands at its place, and the first text behind the numbers
   pub number-at : (i : ℕ) → i ≤ numbersOfPaymentLine → At x (fieldsOf x) i (lineAt i)
   number-at zero h = at-first false n x f
   number-at (suc i) h =
@@ -119,7 +123,7 @@ module _ (n : ℕ) (x : List ℕ) (f : FormedLine false n x) (some-left : number
       let next = at-next (lineAt i + fieldOfC i .width) w k (omega (arith, formed-count false n x f)) .1 in
       rw (add-one i, numbers-next i (omega arith)) at next
 
-  -- and ends where its width does
+  -- number i ends where its width does
   pub number-end : (i : ℕ) → i < numbersOfPaymentLine → lineAt i + fieldOfC i .width ≡ lineAt i + reach tab (drop (lineAt i) x)
   number-end i h = number-ends i h (number-at i (omega arith))
 

@@ -1,4 +1,9 @@
 -- Records written into the output one after another, from the lines of a listing that was accepted.
+-- The loop keeps `Putting`: the records of the first `row` payments stand in the output behind A, and the lines from p on are composed to the
+-- payments still to come. Because that is so, the line at p is ended and composing makes the next payment of it (`next`); its record, laid out
+-- from the line, is then the payment written out (`line-written`), and put behind the others it is one more (`putting-more`, by `over-next`).
+-- The code looks for the line's end and counts fields only behind the numbers, which stand at fixed places: that this gives the end and the
+-- fields of the whole line is `texts-end` and `texts-counted`.
 use Prim.Native.Nat.{ℕ, zero, suc, _+_, _-_, _*_, _≤_, _<_, min}
 use native.Mathlib.Nat.{add-assoc, zero-add}
 use native.Mathlib.Omega.{arith}
@@ -55,11 +60,11 @@ part-long p n old h =
 
 -- ---- the line of a payment
 
--- its bytes in the file, by the number k of its parts
+-- the bytes in the file of the payment that the line x tells, by the number k of its parts
 pub bytes-told : (x : List ℕ) {k bytes : ℕ} → k ≡ linesParts x → bytes ≡ 128 * section (min k mostParts) → bytes ≡ 128 * section (linesParts x)
 bytes-told x parts e = e ∙ ap (λ n. 128 * section n) (min-is _ (omega (arith, parts, few (length (split tab x)))) ∙ parts)
 
--- its form, and what its record is
+-- the line x has its form, and the record laid out from it is the payment q written out
 pub record Written (x : List ℕ) (q : Payment) : Type 0 where
   pub form : PaymentLine x
   pub bytes : lay (recordC (linesParts x)) (behindLetter (split tab x)) ≡ writePayment q
@@ -112,7 +117,7 @@ pub record Putting (l old : List ℕ) (ps : List Payment) (out : List ℕ) (row 
   pub long : length out ≡ length old
   pub holds : out ≡ over 128 (writePayments (take row ps)) old
 
--- ---- one more
+-- ---- one payment more
 
 made-same : {x y : Payment} {xs ys : List Payment} → _≡_ {A = Composed (List Payment)} (made (x ∷ xs)) (made (y ∷ ys)) → (x ≡ y) × (xs ≡ ys)
 made-same e = (cc, cc)
@@ -174,7 +179,7 @@ module _ {l old : List ℕ} {ps : List Payment} {out : List ℕ} {row p at : ℕ
       }
 
   module _ (n : Next) (w : Written (lineTo l p e) (n .payment)) where
-    -- there is room for its record
+    -- there is room for the record of the next payment
     pub next-room : at + 128 * section (linesParts (lineTo l p e)) ≤ length out
     next-room =
         let a = all-written ps row in
@@ -212,7 +217,7 @@ drop-take (suc m) zero l = let e : 0 - suc m ≡ 0 = omega arith in rw e
 drop-take (suc m) (suc n) [] = sym (take-nil (suc n - suc m))
 drop-take (suc m) (suc n) (x ∷ xs) = let e : suc n - suc m ≡ n - m = omega arith in rw e (drop-take m n xs)
 
--- its texts stand behind the numbers: where they end the line does, and all else but the letter and the numbers is theirs
+-- the texts of the line at p stand behind the numbers: where they end the line does, and all fields but the letter and the numbers stand there
 module _ {l old : List ℕ} {ps : List Payment} {out : List ℕ} {row p at : ℕ} (putting : Putting l old ps out row p at) (left : row < length ps) where
   abbrev end : ℕ
   end = p + reach lineEnd (drop p l)
@@ -239,7 +244,7 @@ module _ {l old : List ℕ} {ps : List Payment} {out : List ℕ} {row p at : ℕ
   pub texts-within : p + line.texts + reach lineEnd (drop (p + line.texts) l) < length l
   texts-within = omega (arith, texts-end, line-within l p end (putting .inside) refl (coming .more))
 
-  -- its fields
+  -- the fields of the line: the letter, the numbers, and those counted behind them
   pub texts-counted : (e n : ℕ) → e ≡ end → n ≡ length (split tab (restFrom l (p + line.texts))) → suc numbersOfPaymentLine + n ≡ length (split tab (lineTo l p e))
   texts-counted e n i c =
       let m : end - p - line.texts ≡ reach lineEnd (drop (p + line.texts) l) = omega (arith, texts-end) in
@@ -254,7 +259,7 @@ module _ {l old : List ℕ} {ps : List Payment} {out : List ℕ} {row p at : ℕ
       let k = few (length (split tab x)) in
       omega (arith, texts-counted end n refl c, all-fields x, formed-count false fieldsThere x form)
 
--- ---- all of them
+-- ---- all payments
 
 pub payments-are : (l : List ℕ) {d : Document} → compose l ≡ made d → composedPayments (compose l) ≡ d .payments
 unfolding composedPayments

@@ -48,7 +48,7 @@ abbrev pub behindLetter : List (List ℕ) → List (List ℕ)
 behindLetter [] = []
 behindLetter (t ∷ ts) = ts
 
--- a line of that form, of at least one field
+-- a line of the form of A, or of a C, with n fields behind its letter, at least one
 abbrev pub FormedLine : Bool → ℕ → List ℕ → Type 0
 FormedLine head n x = (0 < n) × ((n ≤ length (cellsOf head)) × (lineFormed head n (split tab x) ≡ true))
 
@@ -69,11 +69,11 @@ abbrev pub tells : {A R : Type 0} → (A → R) → (Refusal → R) → Composed
 tells gives refuses (made a) = gives a
 tells gives refuses (denied v) = refuses (refusalOf (v .number) (v .place))
 
--- of A its kind, and the place behind its line
+-- what is told of A: its kind, and the place behind its line
 abbrev pub headTold : ℕ → Composed Header → KindRead
 headTold q c = tells (λ h. kind.Is (kindOf (h .fileKind)) q) kind.Refused c
 
--- of a payment the sums with it, and its bytes in the file
+-- what is told of a payment: the sums with it, and its bytes in the file
 abbrev pub paymentTold : Sums → Composed Payment → LaidPayment
 paymentTold sums c = tells (λ p. laid.Is (withPayment sums p) (length (writePayment p))) laid.Refused c
 
@@ -81,24 +81,24 @@ abbrev pub laidWhy : LaidPayment → Refusal
 laidWhy (laid.Is sums bytes) = refusalOf 0 0
 laidWhy (laid.Refused r) = r
 
--- of the line that begins at p, whose end is at e
+-- what is told of the line that begins at p, whose end is at e
 pub record LineEnded (l : List ℕ) (p : ℕ) (letters : List ℕ) (t : Totals) (sums : Sums) (a : LaidPayment) (e : ℕ) : Type 0 where
   pub ends : e ≡ p + reach lineEnd (drop p l)
   pub more : e ≢ length l
   pub told : a ≡ paymentTold sums (composePayment letters t p (split tab (take (e - p) (drop p l))))
 
--- of the line that begins at p, after payments that come to t
+-- what is told of the line that begins at p, after payments that come to t
 abbrev pub LineTold : List ℕ → ℕ → List ℕ → Totals → Sums → LineRead → Type 0
 LineTold l p letters t sums one.NotEnded = p + reach lineEnd (drop p l) ≡ length l
 LineTold l p letters t sums (one.Refused r) = (e : ℕ) × LineEnded l p letters t sums (laid.Refused r) e
 LineTold l p letters t sums (one.Is new bytes next) = (e : ℕ) × LineEnded l p letters t sums (laid.Is new bytes) e × (next ≡ e + 1)
 
--- of payments after others that come to t: what all come to, and these payments' bytes added to so many
+-- what is told of payments after others that come to t: what all come to, and these payments' bytes added to so many
 abbrev pub paymentsTold : Totals → ℕ → Composed (List Payment) → LinesRead
 paymentsTold t size c =
     tells (λ ps. let u = together t (totals ps) in lines.Are (u .count) (sumsOf u) (size + length (writePayments ps))) lines.Refused c
 
--- of a listing what its payments come to, and their bytes
+-- what is told of a listing: what its payments come to, and their bytes
 abbrev pub listingTold : Composed Document → LinesRead
 listingTold c =
     tells (λ d. lines.Are (totals (d .payments) .count) (sumsOf (totals (d .payments))) (length (writePayments (d .payments)))) lines.Refused c

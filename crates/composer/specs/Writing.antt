@@ -14,7 +14,7 @@ use Rattle.layout.specs.Cells.{recordOf, cellsOf}
 use Rattle.line_reader.specs.Reaching.{reach}
 use Rattle.composer.specs.Telling.{FormedLine, behindLetter}
 
--- the line tells the n fields of such a record, which has what is its own and the first i fields; field i stands at q of the line
+-- the line x tells the n fields of A, or of a C of k parts; `out` has what is the record's own and the first i fields; field i stands at q of x
 pub record Layable (head : Bool) (k n : ℕ) (x out : List ℕ) (i q : ℕ) : Type 0 where
   pub line : FormedLine head n x
   pub cells : cells 0 (recordOf head k) ≡ take n (cellsOf head)

@@ -208,7 +208,7 @@ fn read_payments(l: &[u8], start: usize, kind: FileKind, space: &mut [u8]) -> Li
     LinesRead::Are(count, sums, size)
 }
 
-// The whole listing.
+// What is told of the whole listing: its refusal, or what its payments come to.
 fn read_listing(l: &[u8]) -> LinesRead
     ensures { λ r. ⌜ r ≡ listingTold (compose (now (l .entry))) ⌝ }
 {
@@ -258,7 +258,7 @@ fn write_payments(l: &[u8], start: usize, count: u64, out: &mut [u8]) -> usize
     at
 }
 
-// Writes the file.
+// Writes the file of a listing that has been accepted, whose payments come to these sums.
 fn write_file(l: &[u8], count: u64, sums: Sums, out: &mut [u8])
     requires { ⌜ Ready (now l) (totalsOf count sums) (length (now out)) ⌝ }
     ensures { λ _. ⌜ now (out .exit) ≡ filled (written (composed (compose (now (l .entry))))) (now (out .entry)) ⌝ }

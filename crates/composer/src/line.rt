@@ -1,5 +1,5 @@
-// A line of a listing, without its end: how many fields it has, its form, and where a field of its record stands in it; and the rest of a line within a
-// listing.
+// A line of a listing, without its end: how many fields it has, its form, and where a field of its record stands in it; and the rest of a line
+// within a listing.
 ghost use mathlib.Core.Path.{_≡_};
 ghost use Prim.Native.Nat.{_+_, _≤_, _<_};
 ghost use mathlib.Core.List.{[], _∷_, _++_};
@@ -29,7 +29,7 @@ fn field_end(x: &[u8], q: usize) -> usize
     i
 }
 
-// How many fields there are, the letter among them.
+// How many fields the line has, its letter among them.
 pub(crate) fn count_fields(x: &[u8]) -> usize
     ensures { λ r. ⌜ r ≡ length (split tab (now (x .entry))) ⌝ }
 {
@@ -48,8 +48,8 @@ pub(crate) struct Rest {
     pub fields: usize,
 }
 
-// The line from p on, in a listing where its end is still to come, so that no place is held against the listing's length. Tab and line end are small bytes:
-// one comparison passes nearly all others.
+// The line from p on, in a listing where its end is still to come, so that no place is held against the listing's length. Tab and line end are
+// small bytes: one comparison passes nearly all others.
 pub(crate) fn rest_of_line(l: &[u8], p: usize) -> Rest
     requires { ⌜ p + reach lineEnd (drop p (now l)) < length (now l) ⌝ }
     ensures end { λ r. ⌜ r .end ≡ p + reach lineEnd (drop p (now (l .entry))) ⌝ }
@@ -131,7 +131,7 @@ pub(crate) fn formed(head: bool, n: usize, x: &[u8]) -> bool
     }
 }
 
-// Where in a line of that form the field stands that stands at place p of its record; 0 where the line does not tell that field.
+// Where in a line of the form of A, or of a C, the field stands that stands at place p of its record; 0 where the line does not tell that field.
 pub(crate) fn place_of(head: bool, n: usize, x: &[u8], p: usize) -> usize
     requires { ⌜ FormedLine head n (now x) ⌝ }
     ensures { λ r. ⌜ r ≡ placeIn head n (split tab (now (x .entry))) p ⌝ }

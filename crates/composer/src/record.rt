@@ -51,8 +51,8 @@ fn own_of_c(k: usize, out: &mut [u8])
     output::put_number(out, at::C18, parts, width::C18);
 }
 
-// The numbers that begin the line of a C of k parts, C3 to C7b and C10 to C12. Each has its full width, so their places in the line are fixed. They are
-// put one by one, so that the compiler knows the width of each.
+// The numbers that begin the line of a C of k parts, C3 to C7b and C10 to C12. Each has its full width, so their places in the line are fixed.
+// They are put one by one, so that the compiler knows the width of each.
 fn put_numbers(k: usize, x: &[u8], out: &mut [u8])
     requires { ⌜ Layable false k (fieldsWith k) (now x) (now out) 0 line.first × (line.texts ≤ length (now x)) ⌝ }
     ensures { λ _. ⌜ now (out .exit) ≡ lay (recordC k) (take numbersOfPaymentLine (behindLetter (split tab (now (x .entry))))) ⌝ }

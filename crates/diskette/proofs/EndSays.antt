@@ -63,10 +63,11 @@ length-is k h =
     whole : (k : ℕ) → (187 + 29 * k - 187) % 29 ≡ 0
     whole k = omega arith
 
--- E may begin, a C may begin
+-- E may begin after at least one C
 pub end-begins : (t : Totals) → 1 ≤ t .count → Holds (firstField t 128)
 end-begins t h = (or-left (leb 1 (t .count)) false (le→leb 1 (t .count) h), (tt, (tt, tt)))
 
+-- a C may begin as long as neither limit is reached
 pub payment-begins : (t : Totals) (k : ℕ) → k ≤ 15 → t .count < mostPayments → t .cents < mostCents → Holds (firstField t (lengthOf k))
 payment-begins t k h n c =
     rw (ne-eqb (lengthOf k) 128 (omega arith)) (length-is k h, (omega (arith, lt→ltb), (omega (arith, lt→ltb), tt)))

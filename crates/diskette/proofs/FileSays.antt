@@ -1,4 +1,8 @@
 -- The fields of a whole file say what the rules say: a filled form is a legal document written out, and the other way round.
+-- The proof goes by induction over the payments that can still come, after payments that come to t: `GoodFrom` says what the rules ask of those
+-- that come, and `rest t` is how they and E are written (`payments-says`). At each first field the file ends, with just the totals t in E
+-- (`ends-fill`, `ends-told`), or a payment comes, and what is asked of it and of the others is parted or joined (`good-first`, `good-others`,
+-- `good-both`). The whole file is A, and then the payments after none.
 use Prim.Native.Nat.{ℕ, zero, suc, _+_, _^_, _≤_, _<_}
 use native.Mathlib.Nat.{add-zero, zero-add}
 use native.Mathlib.Omega.{arith}
@@ -30,7 +34,7 @@ pub record GoodFrom (left : ℕ) (kind : List ℕ) (t : Totals) (ps : List Payme
   pub bankCodes : t .bankCodes + totals ps .bankCodes < sumLimit
   pub cents : t .cents + totals ps .cents ≤ mostCents
 
--- what all come to
+-- what payments that come to t come to together with others
 abbrev after : Totals → List Payment → Totals
 after t ps =
     let u = totals ps in
@@ -72,7 +76,7 @@ none-good left kind t h w =
       cents = omega (arith, w .cents);
     }
 
--- the file ends here
+-- no payment follows: E is filled in with the totals so far
 ends-fill : (t : Totals) → t .count ≤ mostPayments → Within t → (r : Filled (end t)) × (value (end t) r ≡ []) × (numeral 4 128 ++ bytes (end t) r ≡ rest t [])
 ends-fill t h w = let e = end-fill t h w in (e.0, e.1, rest-none t (bytes (end t) e.0) e.2)
 
@@ -139,12 +143,12 @@ module _ (left : ℕ) (kind : List ℕ) (t : Totals) (h : t .count + suc left �
   below-top : {l : ℕ} (p : Payment) → LegalPayment kind p → GoodPayment kind t l p → t .cents < mostCents
   below-top p q g = omega (arith, g .cents, at-least-one (p .cents) (q .C12-some))
 
-  -- the others fill in what follows a payment
+  -- the payments behind p fill in what follows p
   others-fill : (p : Payment) (ps : List Payment) → Within (adding t p) → GoodFrom left kind (adding t p) ps
       → Filling (onward p) (p ∷ ps) (rest (adding t p) ps ++ [])
   others-fill p ps i g = then-fill (payments left kind (adding t p)) (GoodFrom left kind (adding t p)) (rest (adding t p)) (says p i) (cons p) ps g tt
 
-  -- both fill in what follows the length
+  -- p and the payments behind it fill in what follows the length of p
   more-fill : (l : ℕ) (p : Payment) (ps : List Payment) → GoodPayment kind t l p → (s : Filled (onward p)) → value (onward p) s ≡ p ∷ ps
       → bytes (onward p) s ≡ rest (adding t p) ps ++ [] → T (not (eqb l 128))
       → (r : Filled (fork (eqb l 128) (end t) (more l))) × (value (fork (eqb l 128) (end t) (more l)) r ≡ p ∷ ps)
@@ -154,7 +158,7 @@ module _ (left : ℕ) (kind : List ℕ) (t : Totals) (h : t .count + suc left �
       let f = fork-no (eqb l 128) (end t) (more l) c a.0 in
       (f.0, f.1 ∙ a.1 ∙ v, rest-more t p ps l (bytes (fork (eqb l 128) (end t) (more l)) f.0) (bytes (onward p) s) (g .long) (f.2 ∙ a.2) b)
 
-  -- and the other way round
+  -- what follows a length of C tells a payment and those behind it, which may come after payments that come to t
   more-told : (l : ℕ) (s : Filled (more l tt))
       → Told (GoodFrom (suc left) kind t) (rest t) (value (more l tt) s) (numeral 4 l ++ bytes (more l tt) s)
   more-told l s =

@@ -1,4 +1,7 @@
 -- The fields of A say what the rules say: a filled A is a legal header written out, and the other way round.
+-- Both directions list the fields in order, and all but the two dates have in the form the conditions that they have in the rules. The dates are
+-- numbers in the form and days in the rules: DDMMYY and DDMMYYYY are taken there and back by the laws of `DateLaws`. The span is counted in the
+-- form and stepped through in the rules; `span-counted` joins them, since the year of A7 lies below 9999 (`short-year`).
 use Prim.Native.Nat.{ℕ, _^_, _<_}
 use mathlib.Core.Path.{_≡_, refl, sym, ap, subst}
 use mathlib.Core.Option.{Option, none, some}
@@ -40,7 +43,7 @@ executes made (some d) h y l =
       spelled = refl;
     }
 
--- and the other way round
+-- a content of A11b that keeps the rules of the form says a legal execution date
 execution-legal : (made : Day) (n : Option ℕ) → IsDay made → made .year < 9999 → Holds (executionRules made (executionOf n)) → LegalExecution made (executionOf n)
 execution-legal made none h y l = tt
 execution-legal made (some n) h y l = let d = ofDDMMYYYY n in (l.0, span-counted made d h y (see-day d l.0) .1 (l .1 .0))

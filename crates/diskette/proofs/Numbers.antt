@@ -1,4 +1,7 @@
 -- Which numbers the diskette form gives: its rules give 5 to 14, each record its own, so that a refused file has one of the numbers of a file.
+-- Field by field the number of each rule is looked up in the list of its record, which computes; the parts and the payments go by induction over
+-- those that are left. The lists of the records are then taken together (`numbered-within`), and what is broken is a rule of the form by
+-- `number-given`. The reasons that are no rule have their numbers by `numberOf`.
 use Prim.Native.Nat.{ℕ, zero, suc}
 use mathlib.Core.Path.{_≡_, refl}
 use mathlib.Core.Option.{Option, none, some}
@@ -23,7 +26,7 @@ use Rattle.diskette.specs.Fields.{Name, executionOf, executionRules, hea
 abbrev pub ofHeader : List ℕ
 ofHeader = 10 ∷ 11 ∷ []
 
--- of the first field after A or a C
+-- the numbers of the first field after A or a C
 abbrev pub ofFirst : List ℕ
 ofFirst = 5 ∷ 6 ∷ 9 ∷ []
 

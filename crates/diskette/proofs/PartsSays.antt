@@ -1,4 +1,8 @@
 -- The fields of the extension parts say what the rules say: filled parts are legal parts written out, section by section.
+-- The proof goes by induction over the parts that are left, for every part i ahead of them and every room (`parts-says`). Where none is left the
+-- last section is closed (`none-left`); else come the blanks of a section that is full, one part, and the others with the room that its mark
+-- leaves (`part-fill`, `part-told`). A mark keeps the two rules of the form exactly where it is `Allowed` (`show-mark`, `see-mark`), and that is
+-- what `Walked` asks of each mark in turn.
 use Prim.Native.Nat.{ℕ, zero, suc, _≤_}
 use native.Mathlib.Omega.{arith}
 use mathlib.Core.Path.{_≡_, refl, ap, _∙_}
@@ -43,7 +47,7 @@ LegalWords q = Text (q .words)
 abbrev pub GoodParts : ℕ → ℕ → List Part → Type 0
 GoodParts left room ps = (length ps ≡ left) × Walked room (map markOf ps) × All LegalWords ps
 
--- the last section is closed
+-- no part is left: the last section is closed
 none-left : (i room : ℕ) → Says (parts zero i room) (GoodParts zero room) (writeParts i)
 unfolding parts
 none-left i room = record { fill = fill; told = told }
@@ -96,7 +100,7 @@ module _ (left i room : ℕ) (says : (j x : ℕ) → Says (parts left j x) (Good
   seen : (ps : List Part) (m : ℕ) → length ps ≡ left → T (markOk room m) → left ≤ roomAfter m room → Allowed room (length (map markOf ps)) m
   seen ps m e h k = rw (length-map ps markOf, e) (see-mark room left m h k)
 
-  -- and the other way round
+  -- what the fields of a part and of those behind it hold is a part that may stand, ahead of good parts
   from-part : (r : Filled (behind tt)) → Told (GoodParts (suc left) room) (writeParts i) (value (behind tt) r) (blanks (toNextPart i) ++ bytes (behind tt) r)
   from-part r =
       let m = r .0 in

@@ -1,4 +1,8 @@
 -- The fields of a C behind its length say what the rules say: a filled C is a legal payment written out, with room left in the three sums.
+-- Both directions list the fields up to C18 in order: the conditions of a legal payment are the widths and the rules of these fields, and what
+-- the rules of C4, C5, C12 and C18 ask besides, the sums and the length, stands in `GoodPayment`. The parts are joined on behind C18, which
+-- tells how many there are (`parts-says`). Their marks leave room one by one exactly where they are legal by order and number (`legal-walked`,
+-- `walked-legal`).
 use Prim.Native.Nat.{ℕ, _+_, _^_, _≤_, _<_}
 use native.Mathlib.Omega.{arith}
 use mathlib.Core.Path.{_≡_, refl, ap, _∙_}
@@ -23,7 +27,7 @@ pub record GoodPayment (kind : List ℕ) (t : Totals) (l : ℕ) (p : Payment) : 
   pub cents : t .cents + p .cents ≤ mostCents
   pub long : lengthOf (length (p .parts)) ≡ l
 
--- the same payment with these parts
+-- a payment with other parts
 abbrev withParts : Payment → List Part → Payment
 withParts p ps =
     record {

@@ -1,5 +1,8 @@
 -- What is proved of the diskette form, demand by demand: a file is accepted exactly when it is a legal document written out, only one such
 -- reading exists, a refusal names the right place; every file gets one answer; count and totals are those of the one reading's payments.
+-- All rests on two facts of the form: what it says are the legal documents, written out (`document-says`), and every field that can be come to
+-- has a content (`document-viable`). With these the laws of all such forms (`RulesLaws`) give demand 3. What is said of number, place and totals
+-- then goes by the two cases of an answer.
 use Prim.Native.Nat.{ℕ, _+_, _≤_}
 use mathlib.Core.Path.{_≡_, refl, sym, ap, subst, _∙_}
 use mathlib.Core.Logic.{_↔_, _≢_}
@@ -45,7 +48,7 @@ pub ahead-begins : (f : List ℕ) (r : Refusal Name) → answer f ≡ refused r 
 unfolding answer
 ahead-begins f r e = let b = ahead-legal document Legal write document-says document-viable f r e in (b.0, (b.1, b.2, b.3))
 
--- the bytes through it begin none, unless the file stops before the field is whole
+-- the bytes through the named field begin no acceptable file, unless the file stops before that field is whole
 pub through-begins-none : (f : List ℕ) (r : Refusal Name) → answer f ≡ refused r → numberOf (r .reason) ≢ 1 → ¬ Begin (take (r .place + r .width) f)
 unfolding answer numberOf
 through-begins-none f r e n b =

@@ -1,4 +1,8 @@
 -- At every field of the diskette form that can be come to there is a legal content: a file that was right so far can be ended rightly.
+-- For each field a content is named, and most are the same whatever was read: letters, one cent, the first of January. Where a limit runs along,
+-- something is kept that leaves room: the sums are bounded by the count (`Bounded`), the cents are below their top where a C may begin, and the
+-- parts still to come have room, so that some mark may stand (`some-mark`). The payments go by induction over how many can still come, keeping
+-- that E or a C may begin (`MayGoOn`).
 use Prim.Native.Nat.{ℕ, zero, suc, _+_, _-_, _/_, _%_, _^_, _≤_, _<_}
 use native.Mathlib.Omega.{arith}
 use mathlib.Core.Path.{_≡_}
@@ -51,7 +55,7 @@ closing-viable : (s n : ℕ) → Viable (closingBlanks s n)
 closing-viable s zero = tt
 closing-viable s (suc n) = ok ▸ λ c. tt
 
--- parts for which there is room
+-- the fields of parts for which there is room
 parts-viable : (left i room : ℕ) → room ≤ 15 → left ≤ room → Viable (parts left i room)
 unfolding parts letters
 parts-viable zero i room h l = viable-bind (closingBlanks (section i) (toSectionEnd i)) _ (closing-viable (section i) (toSectionEnd i)) (λ r. tt)

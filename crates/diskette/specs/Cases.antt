@@ -23,7 +23,7 @@ pub record Case : Type 0 where
   pub number : ℕ
   pub place : ℕ
 
--- what is given; opened, it computes
+-- the number and the place that the rules give a case; opened, the definition computes
 unfoldable pub given : Case → ℕ × ℕ
 unfolding answer document payments parts run judge number numeral numberOf outcome toSectionEnd toNextPart isDay monthDays leapDay inSpan dayNumber yearsDays monthsDays ofDDMMYY ofDDMMYYYY
 given c = let v = outcome (answer (c .file)) .verdict in (v .number, v .place)
@@ -93,21 +93,21 @@ endM =
 abbrev pub fileM : List ℕ
 fileM = inTurn (headerM ∷ paymentM ∷ endM ∷ [])
 
--- what it is given: one payment, and its three figures
+-- case M is accepted, with one payment and its three sums
 pub outcomeM : outcome (answer fileM) ≡ record { verdict = accepting; totals = record { count = 1; accounts = 7_654_321; bankCodes = 30_050_020; cents = 12_345 } }
 unfolding given
 outcomeM = refl
 
 -- ---- cases
 
--- these bytes at that place, in the stead of those that stood there
+-- a file with a word put at place p, in the stead of the bytes that stood there
 abbrev pub put : ℕ → String → List ℕ → List ℕ
 put p s f = take p f ++ (ascii s ++ drop (p + length (ascii s)) f)
 
 abbrev pub wanted : Case → ℕ × ℕ
 wanted c = (c .number, c .place)
 
--- some that a wrong definition would answer otherwise
+-- cases that a wrong definition would answer otherwise
 unfoldable pub guards : List Case
 guards =
     record { file = fileM; number = 0; place = 0 }

@@ -81,10 +81,11 @@ header = do
 
 -- ---- C
 
--- sum: that of the payments before
+-- sum: that of C4 in the payments before
 abbrev pub rulesC4 : ℕ → ℕ → List Rule
 rulesC4 sum v = rule 11 (bankCodeOk v) ∷ rule 8 (ltb (sum + v) sumLimit) ∷ []
 
+-- sum: that of C5 in the payments before
 abbrev pub rulesC5 : ℕ → ℕ → List Rule
 rulesC5 sum v = rule 11 (notZero v) ∷ rule 7 (ltb (sum + v) sumLimit) ∷ []
 
@@ -100,14 +101,15 @@ rulesC10 v = rule 11 (bankCodeOk v) ∷ []
 abbrev pub rulesC11 : ℕ → List Rule
 rulesC11 v = rule 11 (notZero v) ∷ []
 
+-- sum: that of C12 in the payments before
 abbrev pub rulesC12 : ℕ → ℕ → List Rule
 rulesC12 sum v = rule 11 (notZero v) ∷ rule 9 (leb (sum + v) mostCents) ∷ []
 
--- C14a and C15
+-- the rules of C14a and of C15
 abbrev pub rulesOfNames : List ℕ → List Rule
 rulesOfNames s = rule 11 (notAllBlank s) ∷ []
 
--- where C1 tells the length l
+-- C18 agrees with the length l, which C1 tells
 abbrev pub rulesC18 : ℕ → ℕ → List Rule
 rulesC18 l k = rule 11 (eqb (lengthOf k) l) ∷ []
 

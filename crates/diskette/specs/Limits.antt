@@ -11,7 +11,7 @@ use Rattle.diskette.specs.Fields.{Name, payments}
 use Rattle.verdict.specs.Verdicts.{numberOf}
 use Rattle.diskette.specs.Cases.{paymentM, put, given}
 
--- what the payments before come to, the bytes that follow them, and the number and the place that these are given
+-- what payments come to, the bytes that follow these payments, and the number and the place that the bytes are given
 pub record Limit : Type 0 where
   pub before : Totals
   pub bytes : List ℕ
@@ -50,7 +50,7 @@ limits =
     -- C12 takes its sum above 13 digits: 9, but 11 comes first
     ∷ record { before = coming 1 (sumLimit - 7_654_322) 1 (mostCents - 12_344); bytes = paymentM; number = 9; place = 79 }
     ∷ record { before = coming 1 1 1 (mostCents - 1); bytes = put 79 "00000000000" paymentM; number = 11; place = 79 }
-    -- it just fits, and the file ends there
+    -- the sum of C12 just fits, and the file ends behind the payment
     ∷ record { before = coming 1 1 1 (mostCents - 12_345); bytes = paymentM; number = 1; place = 256 }
     ∷ []
 

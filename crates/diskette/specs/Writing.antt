@@ -102,7 +102,7 @@ fieldsOfC p =
 abbrev pub writeBody : Payment → List ℕ
 writeBody p = inTurn (fieldsOfC p)
 
--- C1, and the rest
+-- a payment: C1, and its other fields
 abbrev pub writePayment : Payment → List ℕ
 writePayment p = numeral 4 (lengthOf (length (p .parts))) ++ writeBody p
 
@@ -129,7 +129,7 @@ fieldsOfE t =
 abbrev pub writeFigures : Totals → List ℕ
 writeFigures t = inTurn (fieldsOfE t)
 
--- E1, and the rest
+-- E: its length, and its other fields
 abbrev pub writeEnd : Totals → List ℕ
 writeEnd t = numeral 4 128 ++ writeFigures t
 

@@ -1,4 +1,9 @@
 -- The calendar counted and the calendar stepped through agree: the day after a day has the next number, and no two days have the same.
+-- The hard step is one year more: the years divided by 4, 100 and 400 each grow by one exactly at a multiple, so the count of days grows by 365
+-- and the leap day (`years-step`, by the eight cases of the three divisions). From there a later year, or a later month of the same year, has
+-- larger numbers, so the number tells the day (`number-one`). The day after is taken within its month, at a month's end and at a year's end
+-- (`tomorrow-next`), and by induction over the steps so many days later are so many numbers more (`steps-counted`), which gives the days from
+-- the first and the span of 15.
 use Prim.Native.Nat.{ℕ, zero, suc, _+_, _-_, _*_, _/_, _%_, _≤_, _<_}
 use native.Mathlib.Nat.{div-add-mod', mul-add-div-right, div-eq-of-lt, mod-lt, add-zero}
 use native.Mathlib.Omega.{arith}

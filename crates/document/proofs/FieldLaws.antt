@@ -23,7 +23,7 @@ fits-text t h = let b = and-both (eqb (length t) 27) (every sign t) h in record 
 
 -- ---- tables
 
--- of the entry that is so, all holds that holds of every entry
+-- where p holds of every entry and q of one, both hold of some entry
 entry : {A : Type 0} (p q : A → Bool) (xs : List A) → T (every p xs) → T (one q xs) → (x : A) × T (p x) × T (q x)
 entry p q [] a t = absurd t
 entry p q (x ∷ xs) a t =

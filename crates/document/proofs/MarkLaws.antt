@@ -1,4 +1,8 @@
 -- The marks: walked through one by one, with the room that is left, they are exactly those that the rules of order and number allow.
+-- What joins the two is `LegalFrom room`, the rules for the marks from some part on: the room tells how many of 01, of 02 and of 03 may still
+-- come, and with the room 15 these are the rules' own numbers. Both directions go by induction over the marks, with one case for each mark: a
+-- mark that may stand leaves a room from which the rest is legal (`legal-more`); and of legal marks the first may stand, because those behind it
+-- are no smaller and there are as many as of the three marks together (`allowed-first`, `tally`).
 use Prim.Native.Nat.{ℕ, zero, suc, _+_, _-_, _≤_, _<_, min}
 use native.Mathlib.Omega.{arith}
 use native.Mathlib.Decide.{decLe}
@@ -52,13 +56,13 @@ mark-fits (beneficiary h) = tt
 mark-fits (purpose h k) = tt
 mark-fits (sender h) = tt
 
--- what it leaves room for is enough
+-- a mark that may stand leaves room for all parts that follow it
 pub room-left : {room left m : ℕ} → room ≤ 15 → Allowed room left m → (roomAfter m room ≤ 15) × (left ≤ roomAfter m room)
 room-left h (beneficiary k) = (omega arith, k)
 room-left h (purpose k l) = (omega arith, l)
 room-left h (sender k) = (omega arith, omega arith)
 
--- where there is room for all that are left, some mark may stand
+-- where there is room for a part and all that follow it, some mark may stand
 pub some-mark : (room left : ℕ) → room ≤ 15 → suc left ≤ room → (m : ℕ) × Allowed room left m
 some-mark room left h l = by (decLe 15 room) (decLe 2 room)
   where
@@ -108,7 +112,7 @@ tally (m ∷ ms) h = by m (see-three m h.0) (tally ms h.1)
     by m two e = omega arith
     by m three e = omega arith
 
--- none is m where each is above m
+-- of marks that all are n or above, none is an m below n
 none-below : (m n : ℕ) (ms : List ℕ) → m < n → All (λ x. n ≤ x) ms → howMany m ms ≡ 0
 none-below m n [] h a = refl
 none-below m n (x ∷ xs) h a = let i = none-below m n xs h a.1 in let l = a.0 in rw (ne-eqb x m (omega arith)) i
@@ -126,7 +130,7 @@ none-left : (ms : List ℕ) → length ms ≡ 0 → All (λ x. 3 ≤ x) ms
 none-left [] e = tt
 none-left (m ∷ ms) e = absurd (omega arith)
 
--- one fact at a time: `omega` makes at most six splits for `-` and `min`
+-- numbers of marks behind a purpose, each fact by itself: `omega` makes at most six splits for `-` and `min`
 no-more-01 : (room n : ℕ) → n ≤ (min room 14 - 1) - 14 → n ≤ 0
 no-more-01 room n h = omega arith
 
@@ -190,6 +194,6 @@ pub legal-walked : (ms : List ℕ) → LegalMarks ms → Walked 15 ms
 legal-walked ms l =
     walked-from 15 ms (omega arith) (record { each = l .each; order = l .order; once-01 = omega arith; times-02 = omega arith; once-03 = omega arith })
 
--- at most 15 parts
+-- legal marks are at most 15
 pub legal-length : (ms : List ℕ) → LegalMarks ms → length ms ≤ 15
 legal-length ms l = let t = tally ms (l .each) in omega arith

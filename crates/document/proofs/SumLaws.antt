@@ -57,7 +57,7 @@ bounded-all kind (p ∷ ps) l =
     let q = l.0 in
     record { accounts = omega (arith, b .accounts, q .C5); bankCodes = omega (arith, b .bankCodes, q .C4) }
 
--- of the rules: the two limits of 17 digits follow from the others
+-- the two limits of 17 digits in the rules follow from the others
 pub sums-fit : (kind : List ℕ) (ps : List Payment) → All (LegalPayment kind) ps → totals ps .count ≤ mostPayments
     → (totals ps .accounts < sumLimit) × (totals ps .bankCodes < sumLimit)
 sums-fit kind ps l h = let b = bounded-all kind ps l in (omega (arith, b .accounts), omega (arith, b .bankCodes))

@@ -56,15 +56,15 @@ dayNumber d = yearsDays (d .year - 1) + monthsDays (d .year) (d .month - 1) + d 
 
 -- ---- the span between creation and execution
 
--- calendar days, at the most
+-- from creation to execution at most so many calendar days
 abbrev pub spanDays : ℕ
 spanDays = 15
 
--- on the first day, or up to that many calendar days later
+-- the second day is the first, or comes up to `spanDays` steps after it
 abbrev pub OnOrSoonAfter : Day → Day → Type 0
 OnOrSoonAfter d e = (n : ℕ) × (n ≤ spanDays) × (e ≡ daysAfter n d)
 
--- the same, counted
+-- the number of the second day is that of the first, or up to `spanDays` more
 unfoldable pub inSpan : Day → Day → Bool
 inSpan d e = leb (dayNumber d) (dayNumber e) && leb (dayNumber e) (dayNumber d + spanDays)
 

@@ -50,7 +50,7 @@ pub record Totals : Type 0 where
 abbrev pub noTotals : Totals
 noTotals = record { count = 0; accounts = 0; bankCodes = 0; cents = 0 }
 
--- and one payment more
+-- totals, and one payment more
 abbrev pub adding : Totals → Payment → Totals
 adding t p =
     record { count = t .count + 1; accounts = t .accounts + p .account; bankCodes = t .bankCodes + p .bankCode; cents = t .cents + p .cents }

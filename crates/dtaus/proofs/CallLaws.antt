@@ -1,4 +1,8 @@
 -- How the calls come to their ends: a result without room is refused ahead of all else, and any other gets the figures of the call beneath.
+-- A call tests the room of its result, and how it is to end is defined by the same test, so both cases are one step each: the outcome of the
+-- test put into the definition. Without room 16 is returned and nothing is told (`short-outcome`, `short-written`, `short-spot`); with room the
+-- figures are those of what the call beneath has ensured (`roomy-outcome`, `roomy-written`, `roomy-spot`). These are proved once for each of the
+-- three kinds of result, and each call is an instance.
 use Prim.Native.Nat.{ℕ, _≤_, _<_}
 use mathlib.Core.Path.{_≡_, refl, sym, ap, subst, _∙_}
 use mathlib.Core.List.{List, [], _∷_}
@@ -35,7 +39,7 @@ SaysWritten e output result r bytes new =
 abbrev pub SaysSpot : Spot → List ℕ → ℕ → List ℕ → Type 0
 SaysSpot s result r new = (r ≡ s .verdict .number) × (new ≡ told (spotFigures s) result)
 
--- a load says it of its columns too
+-- what a load says, of its columns too
 abbrev pub SaysLoaded : List ℕ → List ℕ → List ℕ → List ℕ → List ℕ → List ℕ → ℕ → List ℕ → List ℕ → List ℕ → List ℕ → List ℕ → Type 0
 SaysLoaded file c4 c5 c12 start result r c4′ c5′ c12′ start′ new =
     (r ≡ loadingWith (c4 ∷ c5 ∷ c12 ∷ start ∷ []) result file .verdict .number)

@@ -1,4 +1,4 @@
--- Which numbers the six calls return: 0, or one of those of the call beneath, or 16 for a result without room.
+-- Which numbers the calls on a file or a listing return: 0, or one of those of the call beneath, or 16 for a result without room.
 use Prim.Native.Nat.{ℕ}
 use mathlib.Core.Path.{sym, subst}
 use mathlib.Core.Bool.{Bool, true, false}

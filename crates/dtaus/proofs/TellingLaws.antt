@@ -10,12 +10,12 @@ use Rattle.verdict.specs.Lent.{filled}
 use Rattle.dtaus.specs.Figures.{told}
 
 module _ (figures result : List ℕ) where
-  -- there is not room for all of them
+  -- without room for all figures none is told
   pub not-told : length result < length figures → result ≡ told figures result
   unfolding told
   not-told h = sym (ap (λ b. cond b (filled figures result) result) (lt-leb (length figures) (length result) h))
 
-  -- there is
+  -- with room for all figures the result begins with them
   pub all-told : length figures ≤ length result → filled figures result ≡ told figures result
   unfolding told
   all-told h = sym (ap (λ b. cond b (filled figures result) result) (le-leb (length figures) (length result) h))

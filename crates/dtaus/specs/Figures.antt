@@ -9,15 +9,15 @@ use Rattle.diskette.specs.Answer.{Outcome}
 use Rattle.output.specs.declared.Written.{Written}
 use Rattle.finder.specs.declared.Spot.{Spot}
 
--- of a check and of a load: number and place, the count, and the sums of account numbers, bank codes and cents
+-- the figures of a check and of a load: number and place, the count, and the sums of account numbers, bank codes and cents
 abbrev pub outcomeFigures : Outcome → List ℕ
 outcomeFigures o = o .verdict .number ∷ o .verdict .place ∷ o .totals .count ∷ o .totals .accounts ∷ o .totals .bankCodes ∷ o .totals .cents ∷ []
 
--- of a call that writes into an output: number and place, and how many bytes it wrote
+-- the figures of a call that writes into an output: number and place, and how many bytes it wrote
 abbrev pub writtenFigures : Written → List ℕ
 writtenFigures w = w .verdict .number ∷ w .verdict .place ∷ w .length ∷ []
 
--- of a stretch of the file: number and place, and where it begins and ends
+-- the figures of a stretch of the file: number and place, and where it begins and ends
 abbrev pub spotFigures : Spot → List ℕ
 spotFigures s = s .verdict .number ∷ s .verdict .place ∷ s .from ∷ s .to ∷ []
 

@@ -1,3 +1,4 @@
 pub mod Figures
 pub mod Calls
 pub mod Example
+pub mod Version

@@ -10,6 +10,7 @@ ghost use Rattle.listing.specs.Endings.{written};
 ghost use Rattle.output.specs.Writing.{writtenOf};
 ghost use Rattle.loader.specs.Columns.{bankCodes, accounts, cents, starts};
 ghost use Rattle.dtaus.specs.Figures.{outcomeFigures, writtenFigures, spotFigures, told};
+ghost use Rattle.dtaus.specs.Version.{version};
 ghost use Rattle.dtaus.specs.Calls.{textNamed, checking, loadingWith, rowsOf, listingWith, composingWith, findingWith, locatingWith};
 use checker::Checked;
 use fields::refusals;
@@ -72,6 +73,16 @@ fn text_named(wanted: usize) -> Wanted
         return Wanted::C16;
     }
     Wanted::Part(wanted - 2)
+}
+
+const VERSION: u32 = 1;
+
+// The version of the header that belongs to this archive.
+#[no_mangle]
+pub extern "C" fn dtaus_version() -> u32
+    ensures { λ r. ⌜ r ≡ version ⌝ }
+{
+    VERSION
 }
 
 // Checks a file.

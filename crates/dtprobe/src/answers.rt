@@ -1,5 +1,5 @@
-// The call that a request asks for: a function for each, and one for the two that write, which reads what is lent beside the input, makes the call and
-// prints its answer.
+// The call that a request asks for: a function for each, and one for the two that write. Each reads what is lent beside the input, makes the
+// call and prints its answer.
 use crate::printing;
 use crate::requests::HEAD;
 use crate::requests::head_number;
@@ -17,7 +17,7 @@ fn check(input: &[u8]) -> bool {
     true
 }
 
-// Loads into columns of just those lengths.
+// Loads into the lent columns, and prints what every one of them then holds.
 fn load_into(s: &[u8], c4: &mut [u64], c5: &mut [u64], c12: &mut [u64], start: &mut [u64]) {
     let r = loader::load(s, c4, c5, c12, start);
     printing::outcome(r);
@@ -76,7 +76,7 @@ fn view_of(head: &[u8; HEAD], input: &[u8]) -> bool {
     true
 }
 
-// Lists or composes into an output of just that length.
+// Lists or composes into the lent output, and prints what it then holds.
 fn write_into(composes: bool, input: &[u8], out: &mut [u8]) {
     if composes {
         let made = composer::compose(input, out);

@@ -7,7 +7,7 @@ use libc::STDIN_FILENO;
 // The bytes of a head line.
 pub(crate) const HEAD: usize = 37;
 
-// How many numbers it has, where they begin, and how far they stand apart.
+// How many numbers a head line has, where they begin, how far they stand apart, and how many digits each has.
 const NUMBERS: usize = 5;
 
 const FIRST_NUMBER: usize = 2;
@@ -16,7 +16,7 @@ const NUMBER_STEP: usize = 7;
 
 const NUMBER_DIGITS: usize = 6;
 
-// More than six digits can tell.
+// No number of a head line: more than six digits can tell.
 const NO_NUMBER: usize = 1000000;
 
 // The largest number of six digits.

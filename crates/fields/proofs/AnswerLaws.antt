@@ -1,4 +1,7 @@
 -- What each leaf's answers tell: a number with the place behind it, a place alone, a kind of file.
+-- A leaf answers by `ofField`: it gives or it refuses, and the variant of its answer tells which, since no variant is another (`zero-one`). From
+-- an answer that gives follow the content of the field and the place behind it. On the walk this is one step: past a field of which no value is
+-- kept (`pass`), or its refusal handed on (`pass-stop`).
 use Prim.Native.Nat.{ℕ, _+_}
 use native.Mathlib.Omega.{arith}
 use mathlib.Core.Path.{_≡_, refl, sym, ap, ap₂, _∙_}
@@ -53,7 +56,7 @@ module _ {a : KindRead} (p n : ℕ) (l : Look (List ℕ)) (told : a ≡ ofField 
       let e = s .given in
       (s .value, s .content, cc, cc)
 
--- blanks or a number
+-- the answer to a field that holds blanks or a number
 module _ {a : MaybeNumber} (p n : ℕ) (l : Look (Option ℕ)) (told : a ≡ ofField maybeNumbers p n l) where
   pub blank-is : {q : ℕ} → a ≡ maybe.Blank q → (l ≡ has none) × (q ≡ n)
   unfolding ofField
@@ -101,7 +104,7 @@ module _ {A R N : Type 0} {t : Telling A R} {f : List ℕ} {g : R} {ν : N} {κ 
 
 -- ---- a form that another reader has read
 
--- and of which nothing is kept
+-- the other reader keeps nothing of the form: the form was read up to its place
 pub passed-form : {B N : Type 0} {a : Passed} (x : Read N B) → a ≡ ofRead passings x → {q : ℕ} → a ≡ passed.To q → (b : B) × (x ≡ done b q)
 passed-form x told {q} given =
     let s = reads passings-told x told (passed.To q) (λ r e. zero-one cc) given in
@@ -109,7 +112,7 @@ passed-form x told {q} given =
     let i : s .place ≡ q = cc in
     (s .value, s .done ∙ ap (done (s .value)) i)
 
--- and which says a number
+-- the form says a number: it was read with the number and the place that the other reader gives
 pub number-form : {N : Type 0} (x : Read N ℕ) {a : Number} → a ≡ ofRead numbers x → {v q : ℕ} → a ≡ number.Is v q → x ≡ done v q
 number-form x told {v} {q} given =
     let r = reads numbers-told x told (number.Is v q) (λ r e. zero-one cc) given in

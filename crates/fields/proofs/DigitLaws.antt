@@ -1,4 +1,8 @@
 -- Digits read one after another: what a loop over a field of digits keeps, and what it comes to.
+-- The invariant is `Spelt`: the first i bytes are digits and spell v, which is below 10^i, so that before the seventeenth digit there is room
+-- for one more (`spelt-room`). Each byte is looked at less the digit 0 in a byte's arithmetic, which is at most 9 for digits alone
+-- (`digit-left`, `no-digit`); a digit takes the number on by `number-more`. What the loop comes to is then what the form sees in a digit field
+-- and in one that may be blank.
 use Prim.Native.Nat.{ℕ, zero, suc, _+_, _-_, _*_, _%_, _^_, _≤_, _<_}
 use native.Mathlib.Nat.{pow-suc, pow-zero, pow-le-pow-right}
 use native.Mathlib.Numerals.{add-one}
@@ -18,7 +22,7 @@ use Rattle.fields.specs.declared.Digits.the-variants.{Are, Not}
 use Rattle.fields.specs.Stretches.{digitsOf}
 use Rattle.fields.proofs.AnswerLaws.{zero-one}
 
--- one digit more
+-- the number that digits and one more spell
 number-more : (bs : List ℕ) (b : ℕ) → number (bs ++ (b ∷ [])) ≡ number bs * 10 + (b - 0x30)
 unfolding number
 number-more [] b = rw (pow-zero 10) (omega arith)
@@ -87,7 +91,7 @@ spelt-all f i v s h =
 pub spelt-room : (f : List ℕ) (i v : ℕ) → Spelt f i v → i < 17 → v < 10 ^ 16
 spelt-room f i v s h = let l : i ≤ 16 = omega arith in let t : 0 < 10 = omega arith in let p : 10 ^ i ≤ 10 ^ 16 = pow-le-pow-right t l in omega (arith, s .below)
 
--- what the bytes of a digit field tell
+-- whether all bytes are digits, and what they spell, by what the loop came to
 not-all : (b : Bool) (n : ℕ) → cond b (Are n) Not ≡ Not → b ≡ false
 not-all true n e = absurd (zero-one cc)
 not-all false n e = refl

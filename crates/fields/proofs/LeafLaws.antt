@@ -1,4 +1,7 @@
 -- A field at a place: whole or not, then what its bytes tell; and the leaf that looks at the rules too.
+-- Each way out of a leaf has its law, by opening the reader at a place: not whole, the wrong bytes, the right ones (`leaf-short`, `leaf-wrong`,
+-- `leaf-right`), and with rules refused by its bytes, a rule broken, all kept (`field-fails`, `field-broken`, `field-holds`). Where the code
+-- tests that every byte is a blank or a zero, the form compares with a row of them: the two agree by induction over the bytes (`same-fill`).
 use Prim.Native.Nat.{ℕ, _+_, _≤_}
 use native.Mathlib.Omega.{arith}
 use mathlib.Core.Path.{_≡_, refl, sym, _∙_}
@@ -77,11 +80,12 @@ same-fill : (b : ℕ) (f : List ℕ) → same (replicate (length f) b) f ≡ eve
 same-fill b [] = refl
 same-fill b (x ∷ xs) = rw (eqb-turn b x, same-fill b xs)
 
--- so many bytes b, and blanks or a number
+-- a field of w bytes b: whether every byte is b
 pub judge-fill : (b w : ℕ) (f : List ℕ) → length f ≡ w → judge (fixed (replicate w b)) f ≡ ifSo (every (λ x. eqb x b) f) tt not-fixed
 unfolding judge
 judge-fill b w f l = rw (← l, same-fill b f)
 
+-- a field of blanks or a number: whether every byte is a blank
 pub judge-maybe : (w : ℕ) (f : List ℕ) → length f ≡ w → judge (maybe w) f ≡ optional (every (λ x. eqb x 0x20) f) f
 unfolding judge
 judge-maybe w f l = rw (← l, same-fill 0x20 f)

@@ -8,7 +8,7 @@ use borrow.Author.Tests.{eqb-true, eqb-false}
 use Rattle.form.proofs.BoolLaws.{and-both}
 use Rattle.document.specs.Signs.{sign}
 
--- as the code tests them
+-- the ranges of bytes that the code tests
 abbrev pub ranges : ℕ → Bool
 ranges b =
     (((eqb b 0x20 || (leb 0x24 b && leb b 0x26)) || (leb 0x2A b && leb b 0x39)) || (leb 0x41 b && leb b 0x5D)) || eqb b 0x7E

@@ -1,4 +1,7 @@
 -- A flag carried through a stretch of bytes: the flag, and what the bytes still to come say, say what the whole stretch says.
+-- That is the invariant, `Flag`. What the bytes from i on say is what byte i says and what those from i + 1 on say, so one byte takes the flag
+-- on (`flag-more`), and at the end it says all (`flag-end`). A text of 27 bytes is tested in two halves that share five: a byte that is asked
+-- twice says nothing new (`in-two`, by induction over the bytes).
 use Prim.Native.Nat.{ℕ, zero, suc, _+_, _≤_, _<_}
 use native.Mathlib.Nat.{add-comm}
 use native.Mathlib.Numerals.{add-one}
@@ -19,7 +22,7 @@ pub and-true : (a : Bool) → a && true ≡ a
 and-true true = refl
 and-true false = refl
 
--- S i: what the bytes from i on say. The flag a stands for those before
+-- S i: what the bytes from i on say; the flag a stands for the bytes before i
 pub record Flag (S : ℕ → Bool) (a : Bool) (i : ℕ) : Type 0 where
   pub all : a && S i ≡ S 0
 
@@ -70,7 +73,7 @@ first-too t (suc n) (x ∷ xs) = by (t x) (first-too t n xs)
     by true e = e
     by false e = refl
 
--- two stretches that meet or overlap
+-- the first b bytes and those from a on, which meet or overlap, say what all bytes say
 pub in-two : (t : ℕ → Bool) (a b : ℕ) (f : List ℕ) → a ≤ b → every t (take b f) && every t (drop a f) ≡ every t f
 in-two t zero b f h = first-too t b f
 in-two t (suc a) zero f h = absurd (omega arith)

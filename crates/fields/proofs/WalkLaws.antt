@@ -1,4 +1,9 @@
--- Code that reads a form field by field, whatever the names of its fields: where it stands, what it owes, and how a field or another reader takes it on or ends it.
+-- Code that reads a form field by field, whatever the names of its fields: where it stands, what it owes, and how a field or another reader
+-- takes it on or ends it.
+-- The invariant is `Walk`: the code has come to place p, and the answer g that it owes is what the fields from there on give. The start owes the
+-- whole form; a field with a content takes the walk behind it, to the form that follows that value (`past`); a field without one is the refusal
+-- that is owed (`stopped`); at the form's end the answer is given (`finish`). A form that another reader reads takes the walk on in the same two
+-- ways, because forms one after another are read one after another (`read-bind`).
 use Prim.Native.Nat.{ℕ, _+_}
 use mathlib.Core.Path.{_≡_, refl, sym, ap, _∙_}
 use mathlib.Core.List.{List, []}
@@ -18,13 +23,13 @@ pub record Told {X R : Type 0} (t : Telling X R) (why : R → Refusal) : Type 0 
 
 -- ---- what an answer tells of a field
 
--- it has the content v, and y is the answer that gives it with the place n behind it
+-- a field has a content, and y is the answer that gives it with the place n behind it
 pub record Stands {X R : Type 0} (t : Telling X R) (l : Look X) (n : ℕ) (y : R) : Type 0 where
   pub value : X
   pub content : l ≡ has value
   pub given : y ≡ t .gives value n
 
--- it has none, and r is the refusal at its place p
+-- a field has no content, and r is the refusal at its place p
 pub record Fails {X : Type 0} (l : Look X) (p : ℕ) (r : Refusal) : Type 0 where
   pub reason : Reason
   pub lack : l ≡ lacks reason
@@ -128,7 +133,7 @@ module _ {A R N : Type 0} {t : Telling A R} {f : List ℕ} {g : R} {ν : N} {κ 
 
 -- ---- a form that another reader reads
 
--- the other has read it, and y is the answer that gives it
+-- another reader has read a form, and y is the answer that gives it
 pub record Reads {B S N : Type 0} (u : Telling B S) (x : Read N B) (y : S) : Type 0 where
   pub value : B
   pub place : ℕ
@@ -144,7 +149,7 @@ module _ {B S N : Type 0} {u : Telling B S} {why : S → Refusal} (k : Told u wh
       by (done b q) e = record { value = b; place = q; done = refl; given = sym e }
       by (halt r) e = absurd (not (refusalAt (r .reason) (r .place)) (sym e))
 
-  -- or has refused it, and r is the refusal
+  -- another reader has refused a form, and r is the refusal
   pub halts : {y r : Refusal} → a ≡ u .refuses y → r ≡ why a → (z : reader.Refusal N) × (x ≡ halt z) × (r ≡ refusalAt (z .reason) (z .place))
   unfolding ofRead
   halts {y} {r} given e = by x (sym told ∙ given)
@@ -157,7 +162,7 @@ module _ {A R N : Type 0} {t : Telling A R} {f : List ℕ} {B : Type 0} {g : R} 
   pub past-part : {b : B} {q : ℕ} → readAt m f p ≡ done b q → Walk t f g (k b) q
   past-part e = record { owed = w .owed ∙ rw (read-bind m k f p, e) }
 
-  -- its refusal is handed on
+  -- the refusal of the other reader is handed on
   pub stopped-part : {S : Type 0} {u : Telling B S} {why : S → Refusal} → Told u why → {a : S} {x r : Refusal} → a ≡ ofRead u (readAt m f p)
       → a ≡ u .refuses x → r ≡ why a → t .refuses r ≡ g
   unfolding ofRead
@@ -165,7 +170,7 @@ module _ {A R N : Type 0} {t : Telling A R} {f : List ℕ} {B : Type 0} {g : R} 
       let h = halts o (readAt m f p) told given e in
       rw (h.2) (sym (w .owed ∙ ap (ofRead t) (read-bind m k f p ∙ ap (λ y. andThen y (λ a q. readAt (k a) f q)) h.1)))
 
--- another value of what was read, and another answer for it
+-- a form that only makes another value of what is read: its answer is owed as that of the form itself
 pub retold : {A B R N : Type 0} (t : Telling B R) (u : Telling A R) {f : List ℕ} {g : R} (m : Form N A) (h : A → B) {p : ℕ}
     → ((a : A) (q : ℕ) → t .gives (h a) q ≡ u .gives a q) → ((x : Refusal) → t .refuses x ≡ u .refuses x)
     → Walk t f g (m >>= λ a. ret (h a)) p → Walk u f g m p

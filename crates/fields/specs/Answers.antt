@@ -31,12 +31,12 @@ pub record Telling (X R : Type 0) : Type 0 where
   pub gives : X → ℕ → R  -- the content, and the place behind it
   pub refuses : Refusal → R
 
--- of a field at place p, with q behind it
+-- the answer to a field at place p, with q behind it
 unfoldable pub ofField : {X R : Type 0} → Telling X R → ℕ → ℕ → Look X → R
 ofField t p q (has v) = t .gives v q
 ofField t p q (lacks z) = t .refuses (refusalAt z p)
 
--- of a form that was read, whatever the names of its fields
+-- the answer to a form that was read, whatever the names of its fields
 unfoldable pub ofRead : {A R N : Type 0} → Telling A R → Read N A → R
 ofRead t (done a q) = t .gives a q
 ofRead t (halt r) = t .refuses (refusalAt (r .reason) (r .place))
@@ -57,10 +57,11 @@ orBlank (some v) q = maybe.Is v q
 abbrev pub maybeNumbers : Telling (Option ℕ) MaybeNumber
 maybeNumbers = record { gives = orBlank; refuses = maybe.Refused }
 
--- the kind of file that the two letters of A3 tell, and the letters of a kind
+-- the kind of file that the two letters of A3 tell
 abbrev pub kindOf : List ℕ → FileKind
 kindOf letters = record { credit = beginsWithG letters; customer = endsInK letters }
 
+-- the two letters of A3 for a kind of file
 abbrev pub lettersOf : FileKind → List ℕ
 lettersOf k = cond (k .credit) (ascii "G") (ascii "L") ++ cond (k .customer) (ascii "K") (ascii "B")
 

@@ -142,7 +142,7 @@ enum Digits {
     Not,
 }
 
-// At most 17 digits. A byte less the digit 0, in a byte's arithmetic, is above 9 where it is no digit.
+// The number that the bytes of f spell, at most 17 of them. A byte less the digit 0, in a byte's arithmetic, is above 9 where it is no digit.
 fn digits_of(f: &[u8]) -> Digits
     requires { ⌜ length (now f) ≤ widest ⌝ }
     ensures { λ r. ⌜ r ≡ digitsOf (now (f .entry)) ⌝ }

@@ -1,4 +1,7 @@
 -- Payments that stand in a file one after another: where each begins, which begins at a start, and which texts it has.
+-- The laws of starts go by induction over the payments, the place moving on by the bytes of the first. Since no payment is empty (`some-bytes`),
+-- a later one begins at a later byte: so at the start of payment i payment i begins and no other (`begun-at-start`, `start-begun`), and its
+-- bytes stand there (`begun-there`). Whether a payment has a text is told by the number of its parts (`text-told`).
 use Prim.Native.Nat.{ℕ, zero, suc, _+_, _≤_, _<_}
 use native.Mathlib.Omega.{arith}
 use mathlib.Core.Path.{_≡_, refl, sym, ap, subst, _∙_}
@@ -29,7 +32,7 @@ start-inside f p [] c i q e = absurd (Option·none-ne-some q e)
 start-inside f p (x ∷ xs) c zero q e = omega (arith, Option·some-injective p q e, first-ends c)
 start-inside f p (x ∷ xs) c (suc i) q e = start-inside f (p + length (writePayment x)) xs (others-coming c) i q e
 
--- and none ahead of the first
+-- no start lies ahead of the first
 start-behind : (p : ℕ) (ps : List Payment) (i q : ℕ) → getElem? (startsFrom p ps) i ≡ some q → p ≤ q
 start-behind p [] i q e = absurd (Option·none-ne-some q e)
 start-behind p (x ∷ xs) zero q e = omega (arith, Option·some-injective p q e)
@@ -53,7 +56,7 @@ begun-at-start p (y ∷ ys) (suc i) q x s e =
     let next = p + length (writePayment y) in
     begun-later q p y ys (λ h. omega (arith, h, some-bytes y, start-behind next ys i q s)) ∙ begun-at-start next ys i q x s e
 
--- where one begins, it is the payment of that start
+-- the payment that begins at q is payment i for an i whose start is q
 pub start-begun : (p : ℕ) (ps : List Payment) (q : ℕ) (x : Payment) → begunFrom q p ps ≡ some x
     → (i : ℕ) × (getElem? (startsFrom p ps) i ≡ some q) × (getElem? ps i ≡ some x)
 start-begun p [] q x e = absurd (Option·none-ne-some x e)
@@ -65,13 +68,13 @@ start-begun p (y ∷ ys) q x e = by (eqb p q) refl (start-begun (p + length (wri
     by true h others = let here = eqb-true p q h in (0, ap (λ (n : ℕ). some n) here, sym (begun-first q p y ys here) ∙ e)
     by false h others = let o = others (sym (begun-later q p y ys (eqb-false p q h)) ∙ e) in (suc (o .0), o .1, o .2)
 
--- where there is no start, none begins
+-- at a place that is no payment's start no payment begins
 pub none-at : (p : ℕ) (ps : List Payment) (q : ℕ) → ((i : ℕ) → getElem? (startsFrom p ps) i ≡ some q → ⊥) → begunFrom q p ps ≡ none
 none-at p [] q n = refl
 none-at p (x ∷ xs) q n =
     begun-later q p x xs (λ e. n 0 (ap (λ (a : ℕ). some a) e)) ∙ none-at (p + length (writePayment x)) xs q (λ i. n (suc i))
 
--- it stands there
+-- the payment that begins at a start stands there
 begun-stands : (f : List ℕ) (p : ℕ) (ps : List Payment) → Coming f p ps → (start : ℕ) (x : Payment) → begunFrom start p ps ≡ some x → Begun f start x
 begun-stands f p [] c start x e = absurd (Option·none-ne-some x e)
 begun-stands f p (y ∷ ys) c start x e = by (eqb p start) refl (begun-stands f (p + length (writePayment y)) ys (others-coming c) start x)
@@ -97,7 +100,7 @@ pub found-none : {A : Type 0} (o : Option A) → found o ≡ false → o ≡ non
 found-none none e = refl
 found-none (some a) e = absurd (subst T e tt)
 
--- ---- its texts
+-- ---- the texts of a payment
 
 part-had : (i : ℕ) (qs : List Part) → i < length qs → found (wordsOf (getElem? qs i)) ≡ true
 part-had i [] h = absurd (omega arith)

@@ -34,7 +34,7 @@ module _ {f : List ℕ} {row p n : ℕ} (w : Passing f (Ahead (starts (paymentsO
 
 -- ---- the payment that begins at a start
 
--- it is one of those still to come
+-- the payment that begins at the start, if one does, is one of those still to come
 abbrev pub Sought : ℕ → List Payment → Keeping
 Sought start all row p left = begunAt start all ≡ begunFrom start p left
 

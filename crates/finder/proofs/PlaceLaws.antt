@@ -16,7 +16,7 @@ use Rattle.finder.specs.declared.Wanted.the-variants.{C14a, C15, C16, Pa
 use Rattle.finder.specs.Texts.{markPlace}
 use Rattle.finder.specs.Seeking.{hasText}
 
--- a part that there is
+-- a part of which a payment of k parts has the text is one of 1 to k
 pub part-bounds : {i k : ℕ} → hasText (PartText i) k ≡ true → (1 ≤ i) × (i ≤ k)
 part-bounds {i} {k} e = let b = and-both (leb 1 i) (leb i k) (T-of e) in (leb→le 1 i b.0, leb→le i k b.1)
 

@@ -1,5 +1,9 @@
 -- What `find` and `locate` come to, for every file: one that is not acceptable is refused as the check refuses it; what is not there is 19 at 0;
 -- and payment n of an acceptable file is found, and so is each of its texts.
+-- Each law goes by the cases of the form's answer: refused, the file is not acceptable; accepted, its payments are those of the one reading
+-- (`accepted-exactly`, `accepted-reading`). Payment n of that reading begins behind A and the payments before it (`start-there`,
+-- `begun-at-start`), and its bytes and texts stand there (`stands-at`, `text-stands`): that is `payment-is`. That nothing else is found is the
+-- way back from the number 0: every other case has a refusal's number (`finds-exactly`, `locates-exactly`).
 use Prim.Native.Nat.{ℕ, _+_, _≤_}
 use native.Mathlib.Omega.{arith}
 use mathlib.Core.Path.{_≡_, refl, sym, ap, subst, _∙_}
@@ -51,14 +55,14 @@ module _ (file : List ℕ) where
       by (accepted d) e = absurd (not (accepted-exactly file .0 (d, e)))
       by (refused r) e = refl
 
-  -- with the number and the place of the field that is wrong
+  -- a file that is not acceptable gets the number and the place of the field that is wrong
   pub find-refused-file : ¬ Acceptable file → (n : ℕ) → RefusedFile file (findAt file n .verdict)
   find-refused-file not n = subst (RefusedFile file) (sym (ap (λ (p : Spot). p .verdict) (find-as-checked not n))) (else-refused file not)
 
   pub locate-refused-file : ¬ Acceptable file → (start : ℕ) (w : Wanted) → RefusedFile file (locateAt file start w .verdict)
   locate-refused-file not start w = subst (RefusedFile file) (sym (ap (λ (p : Spot). p .verdict) (locate-as-checked not start w))) (else-refused file not)
 
-  -- the number is 0 or one of those of the view
+  -- the number of a file's own verdict is 0 or one of those of the view
   of-file : (a : Answer Name Document) → answer file ≡ a → T (oneOf (0 ∷ ofView) (outcome a .verdict .number))
   of-file a e =
       one-within (0 ∷ ofFile) (0 ∷ ofView) (outcome a .verdict .number) tt
@@ -136,11 +140,11 @@ module _ (file : List ℕ) where
     unfolding locateAt locating
     located-as start w = ap (λ a. locating a start w) (accepted-reading file x)
 
-    -- there are fewer payments
+    -- the file has no payment n
     pub no-payment : (n : ℕ) → length ps ≤ n → findAt file n ≡ noSuch
     no-payment n h = found-as n ∙ ap (λ o. fromStart o (length file)) (beyond (starts ps) n (omega (arith, length-starts firstPayment ps)))
 
-    -- no payment begins there
+    -- no payment begins at the start
     pub no-start : (start : ℕ) → ((n : ℕ) → getElem? (starts ps) n ≡ some start → ⊥) → (w : Wanted) → locateAt file start w ≡ noSuch
     unfolding begunAt
     no-start start not w = located-as start w ∙ ap (λ o. ifBegun o start w) (none-at firstPayment ps start not)
@@ -156,7 +160,7 @@ module _ (file : List ℕ) where
       pub no-text : (w : Wanted) → textOf w p ≡ none → locateAt file start w ≡ noSuch
 
     module _ (n : ℕ) (p : Payment) (is : getElem? ps n ≡ some p) where
-      -- behind A and the payments before it
+      -- payment n begins behind A and the payments before it
       abbrev pub startOf : ℕ
       startOf = firstPayment + length (writePayments (take n ps))
 
@@ -188,7 +192,7 @@ pub nineteen : _≡_ {A = ℕ} 19 0 → ⊥
 nineteen e = omega arith
 
 module _ (file : List ℕ) where
-  -- payment n: exactly in acceptable files that have it
+  -- payment n is found exactly in acceptable files that have it
   pub finds-exactly : (n : ℕ) → (findAt file n .verdict .number ≡ 0) ↔ ((x : Acceptable file) × (q : ℕ) × (getElem? (starts (x .0 .payments)) n ≡ some q))
   unfolding findAt finding
   finds-exactly n = (λ z. let x = by (answer file) refl z in begun x _ refl z, λ y. ap (λ (p : Spot). p .verdict .number) (found-as file (y .0) n ∙ ap (λ o. fromStart o (length file)) (y .2)))
@@ -202,7 +206,7 @@ module _ (file : List ℕ) where
       begun x none e z = absurd (nineteen (sym (ap (λ (p : Spot). p .verdict .number) (found-as file x n ∙ ap (λ o. fromStart o (length file)) e)) ∙ z))
       begun x (some q) e z = (x, q, e)
 
-  -- a text: exactly in those where payment n, for some n, begins there and has it
+  -- a text is there: the file is acceptable, and payment n, for some n, begins at the start and has it
   pub record TextThere (start : ℕ) (w : Wanted) : Type 0 where
     pub acceptable : Acceptable file
     pub n : ℕ

@@ -1,4 +1,8 @@
 -- A payment or a text sought in a file, once the check has answered: the file's refusal, 19, or where it stands.
+-- The check's number tells the case of `findAt` and `locateAt`: any but 0 is the file's own refusal, with 0 the payments are those of the one
+-- reading. Then n is held against the count, and of a text it is asked whether a payment begins at the start and has it: the k that C18 tells
+-- there is the number of the payment's parts (`parts-there`), and the parts tell the texts (`text-told`). That every spot lies within the file
+-- rests on where the starts and the texts of the payments stand (`start-inside`, `text-stands`).
 use Prim.Native.Nat.{ℕ, _+_, _≤_}
 use native.Mathlib.Omega.{arith}
 use mathlib.Core.Path.{_≡_, refl, sym, ap, _∙_}
@@ -90,7 +94,7 @@ module _ (f : List ℕ) {c : Checked} (told : c ≡ checkedOf (outcome (answer f
     unfolding locateAt locating
     locate-refused start w = let e = refused-with .1 in as-checked ∙ rw e
 
-  -- it is accepted
+  -- the file is accepted
   module _ (zero : c .verdict .number ≡ 0) where
     find-accepted : (n : ℕ) → findAt f n ≡ fromStart (getElem? (starts (payments f)) n) (length f)
     unfolding findAt finding paymentsOf
@@ -109,11 +113,11 @@ module _ (f : List ℕ) {c : Checked} (told : c ≡ checkedOf (outcome (answer f
       unfolding locateAt locating paymentsOf
       locate-accepted = let e = accepted-as f told zero .1 in rw e
 
-      -- no payment begins there
+      -- no payment begins at the start
       pub locate-none : found (begunAt start (payments f)) ≡ false → noSuch ≡ locateAt f start w
       locate-none e = sym (locate-accepted ∙ ap (λ o. ifBegun o start w) (found-none (begunAt start (payments f)) e))
 
-      -- one begins there, and k is the number of parts that its C18 tells
+      -- a payment begins at the start, and k is the number of parts that its C18 tells
       module _ (begun : found (begunAt start (payments f)) ≡ true) {k : ℕ} (parts : k ≡ partsAt f start) where
         abbrev here : (x : Payment) × (begunAt start (payments f) ≡ some x)
         here = found-some (begunAt start (payments f)) begun

@@ -21,7 +21,7 @@ use Rattle.finder.specs.declared.Wanted.{Wanted}
 use Rattle.finder.specs.declared.Wanted.the-variants.{C14a, C15, C16, Part as PartText}
 use Rattle.finder.specs.Texts.{wordsOf, textOf, textWidth, placeOf}
 
--- the same, with the place counted in another way
+-- fields that stand at a place, with the place counted in another way
 stand-at : {f : List ℕ} {p q : ℕ} {fields : List (List ℕ)} → Stand f p fields → p ≡ q → Stand f q fields
 stand-at {f} {fields = fields} s e = subst (λ q. Stand f q fields) e s
 
@@ -61,7 +61,7 @@ module _ {f : List ℕ} {p : ℕ} {x : Payment} (b : Begun f p x) where
     pub bytes : take textWidth (drop (p + placeOf w) f) ≡ t
     pub inside : p + placeOf w + textWidth ≤ length f
 
-  -- it is the first of the fields that stand at its place
+  -- a text of the payment, where it is the first of the fields that stand at its place
   standing : (w : Wanted) {u t : List ℕ} {others : List (List ℕ)} → Text u → Stand f (p + placeOf w) (u ∷ others) → some u ≡ some t
       → Standing w t
   standing w {u} {t} h c e =
@@ -78,7 +78,7 @@ module _ {f : List ℕ} {p : ℕ} {x : Payment} (b : Begun f p x) where
       let others = behind-first (part-text i q qs c) (a .0 .long) in
       rw there (part-stands (suc i) j _ qs a.1 (omega arith) (omega (arith, next-place i (omega arith))) others t e)
 
-  -- the fields before the parts
+  -- the parts stand behind the fields before them
   parts-stand : Stand f (p + place.parts) (writeParts 0 (x .parts) ∷ [])
   parts-stand =
       let l = b .legal in

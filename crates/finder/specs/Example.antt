@@ -18,7 +18,7 @@ pub finds : map (findAt fileM) (0 ∷ 1 ∷ []) ≡ standing 128 512 ∷ noSuch 
 unfolding findAt finding given
 finds = refl
 
--- the first has three sections
+-- the first payment of this file has three sections
 pub finds-second : map (findAt file) (0 ∷ 1 ∷ 2 ∷ []) ≡ standing 128 896 ∷ standing 512 896 ∷ noSuch ∷ []
 unfolding findAt finding given
 finds-second = refl
@@ -46,23 +46,23 @@ pub places : map (locateAt fileM 128) texts ≡ standing 221 248 ∷ standing 25
 unfolding locateAt locating begunAt given
 places = refl
 
--- parts in two sections
+-- the parts of a payment that stand in two sections
 pub parts : map (λ i. between file (locateAt file 128 (PartText i))) (1 ∷ 2 ∷ 3 ∷ []) ≡ padded "KUNDE 4" ∷ padded "KUNDE 5" ∷ padded "KUNDE 6" ∷ []
 unfolding locateAt locating begunAt given
 parts = refl
 
--- it has one part
+-- case M's payment has one part
 pub no-part : map (λ i. locateAt fileM 128 (PartText i)) (0 ∷ 2 ∷ 15 ∷ 16 ∷ []) ≡ noSuch ∷ noSuch ∷ noSuch ∷ noSuch ∷ []
 unfolding locateAt locating begunAt given
 no-part = refl
 
--- no payment begins there: A, a byte before and behind its start, in its second section, E, the end of the file
+-- no payment of case M begins at A, a byte before or behind its start, in its second section, at E, or at the end of the file
 pub no-start : map (λ start. locateAt fileM start C14a) (0 ∷ 127 ∷ 129 ∷ 256 ∷ 384 ∷ 512 ∷ [])
     ≡ noSuch ∷ noSuch ∷ noSuch ∷ noSuch ∷ noSuch ∷ noSuch ∷ []
 unfolding locateAt locating begunAt given
 no-start = refl
 
--- a view of no bytes, with start 0
+-- a view of no bytes, with start 0, is refused as an empty file
 pub no-file : locateAt [] 0 C14a ≡ nowhere (refusing 1 0)
 unfolding locateAt locating given
 no-file = refl

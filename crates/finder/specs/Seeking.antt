@@ -10,7 +10,7 @@ abbrev pub found : {A : Type 0} → Option A → Bool
 found none = false
 found (some a) = true
 
--- with k parts it has the text
+-- a payment of k parts has the text
 abbrev pub hasText : Wanted → ℕ → Bool
 hasText C14a k = true
 hasText C15 k = true

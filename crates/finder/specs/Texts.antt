@@ -31,7 +31,7 @@ textOf C15 x = some (x .sender)
 textOf C16 x = some (x .purpose)
 textOf (PartText i) x = wordsOf (partOf i (x .parts))
 
--- ---- where they stand
+-- ---- where the texts stand
 
 abbrev pub textWidth : ℕ
 textWidth = width.text
@@ -40,7 +40,7 @@ textWidth = width.text
 abbrev pub markPlace : ℕ → ℕ
 markPlace i = cond (leb i 2) (place.parts + width.part * (i - 1)) (2 * sectionBytes + sectionBytes * ((i - 3) / 4) + width.part * ((i - 3) % 4))
 
--- counted from the first byte of the payment; the text of a part stands behind its mark
+-- where a text stands, counted from the first byte of the payment; that of a part stands behind its mark
 abbrev pub placeOf : Wanted → ℕ
 placeOf C14a = place.C14a
 placeOf C15 = place.C15
@@ -54,6 +54,6 @@ abbrev pub begunFrom : ℕ → ℕ → List Payment → Option Payment
 begunFrom start p [] = none
 begunFrom start p (x ∷ xs) = let others = begunFrom start (p + length (writePayment x)) xs in cond (eqb p start) (some x) others
 
--- in a file
+-- the payment that begins at start in a file, where the first stands behind A
 unfoldable pub begunAt : ℕ → List Payment → Option Payment
 begunAt start ps = begunFrom start firstPayment ps

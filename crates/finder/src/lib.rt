@@ -31,7 +31,7 @@ pub struct Spot {
     pub to: usize,
 }
 
-// No stretch.
+// The spot of a refusal: the verdict, and no stretch.
 fn refused(v: Verdict) -> Spot
     ensures { λ r. ⌜ r ≡ nowhere v ⌝ }
 {

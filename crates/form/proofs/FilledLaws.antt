@@ -1,4 +1,8 @@
--- A form that was read was filled in, each value fits its field and keeps the rules, and it stands there written out; one that stands so is read.
+-- A form that was read was filled in, each value fits its field and keeps the rules, and it stands there written out; one that stands so is
+-- read.
+-- Of one field this is the law of its kind, `judge-has`, behind the question whether the field is whole. Of a form it goes by induction, with
+-- the place moving on by the field's width: `read-written` puts the spelled field ahead of the bytes of those behind it, and `written-read` cuts
+-- the file behind the spelled field, which is as wide as the field (`spell-length`).
 use Prim.Native.Nat.{ℕ, _+_, _^_, _≤_, _<_}
 use native.Mathlib.Omega.{arith}
 use mathlib.Core.Path.{_≡_, refl, sym, ap, _∙_}
@@ -24,7 +28,7 @@ use Rattle.form.proofs.PlaceLaws.{look-place, look-inside}
 look-length : (κ : Kind) (f : List ℕ) (p : ℕ) (v : Value κ) → lookAt κ f p ≡ has v → length (take (width κ) (drop p f)) ≡ width κ
 look-length κ f p v e = length-take-le (width κ) (drop p f) (simp length-drop (omega (arith, look-inside κ f p v e)))
 
--- its value has room in it
+-- the value of a field that was read fits the field
 pub look-fits : (κ : Kind) (f : List ℕ) (p : ℕ) (v : Value κ) → lookAt κ f p ≡ has v → T (fits κ v)
 unfolding lookAt
 look-fits κ f p v e = by (leb (p + width κ) (length f)) e
@@ -47,7 +51,7 @@ field-content κ rs f p v e = by (lookAt κ f p) refl e
     by (has u) i e = let h = obey-has (rs u) u v e in rw (← h.1) (look-fits κ f p u i, h.0)
     by (lacks z) i e = absurd (has-or-lacks (sym e))
 
--- and is spelled so
+-- a field that was read holds its value, spelled
 look-spelled : (κ : Kind) (f : List ℕ) (p : ℕ) (v : Value κ) → lookAt κ f p ≡ has v → spell κ v ≡ take (width κ) (drop p f)
 unfolding lookAt
 look-spelled κ f p v e = by (leb (p + width κ) (length f)) e
@@ -90,7 +94,7 @@ read-written (field ν κ rs next) f p q a e = by (fieldAt κ rs f p) refl e (λ
 pub read-filled : {N A : Type 0} (m : Form N A) (f : List ℕ) (p q : ℕ) (a : A) → readAt m f p ≡ done a q → (r : Filled m) × (value m r ≡ a)
 read-filled m f p q a e = let r = read-written m f p q a e in (r.0, r.1)
 
--- and the other way round
+-- a filled form that stands at p written out, with q behind it, is read there
 pub written-read : {N A : Type 0} (m : Form N A) (r : Filled m) (f : List ℕ) (p q : ℕ) → p ≤ length f → q ≤ length f
     → drop p f ≡ bytes m r ++ drop q f → readAt m f p ≡ done (value m r) q
 unfolding readAt

@@ -1,4 +1,7 @@
 -- The laws of each kind: what is spelled is read back, and what is read is what was spelled. A new kind owes the three at the end.
+-- For fixed bytes, texts and words the reader tests the bytes themselves, and the laws are immediate. The work is in digits: `number` takes back
+-- what `numeral` spells, and the other way round, by induction over the digits; the leading digit is parted from the rest by the laws of
+-- division by a power of ten, for which the rest must be below that power (`number-lt`).
 use Prim.Native.Nat.{ℕ, zero, suc, _+_, _-_, _/_, _%_, _^_, _≤_, _<_}
 use native.Mathlib.Nat.{div-add-mod', mod-lt, div-lt-iff-lt-mul, pow-succ', one-le-pow, add-zero, mul-add-div-right, mul-add-mod-self-right, mod-eq-of-lt, div-eq-of-lt, mul-le-mul-right, pow-zero}
 use native.Mathlib.Omega.{arith}
@@ -95,7 +98,7 @@ unfolding numeral
 not-blank zero n h = absurd (omega arith)
 not-blank (suc w) n h = rw (ne-eqb 0x20 (0x30 + n / 10 ^ w) (omega arith))
 
--- what a test that lets pass says
+-- where `ifSo` lets a value pass, its test holds and the value is the one that was given
 pub so : {X : Type 0} (b : Bool) (x y : X) (z : Reason) → ifSo b x z ≡ has y → T b × (x ≡ y)
 so true x y z e = (tt, cc)
 so false x y z e = absurd (has-or-lacks (sym e))

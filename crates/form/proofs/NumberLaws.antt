@@ -1,4 +1,8 @@
 -- Which numbers a form gives: a rule that is broken is a rule of the form, so its number is one of the form's.
+-- `Numbered p` says of a form that p holds of the number of every rule, whatever is read ahead of it; it is put together along the form
+-- (`numbered-bind`, `numbered-fork`) and passes to longer lists of numbers. `number-given` goes by induction over the form with the three cases
+-- of `meet`: bytes that are too few or wrong bring a reason that is no rule (`judge-lacks`), a field that is in order leaves the refusal to the
+-- fields behind it, and at the refused field `rule-broken` finds the rule in its list.
 use Prim.Native.Nat.{ℕ}
 use native.Mathlib.Omega.{arith}
 use mathlib.Core.Path.{_≡_, refl, sym, ap, subst, _∙_}
@@ -22,12 +26,12 @@ one-within (x ∷ xs) ys n w t =
     let h = and-both (oneOf ys x) (every (oneOf ys) xs) w in
     ⊎-elim (λ e. subst (λ m. T (oneOf ys m)) (sym (eqb→eq n x e)) (h .0)) (λ r. one-within xs ys n (h .1) r) (or-cases (eqb n x) (oneOf xs n) t)
 
--- each rule has such a number
+-- p holds of the number of each rule
 abbrev pub NumberedRules : (ℕ → Bool) → List Rule → Type 0
 NumberedRules p [] = Unit {0}
 NumberedRules p (rule n b ∷ rs) = T (p n) × NumberedRules p rs
 
--- each rule of each field has such a number
+-- p holds of the number of each rule of each field
 abbrev pub Numbered : {N A : Type 0} → (ℕ → Bool) → Form N A → Type 0
 Numbered p (ret a) = Unit {0}
 Numbered p (field ν κ rs next) = (v : Value κ) → NumberedRules p (rs v) × Numbered p (next v)
@@ -98,7 +102,7 @@ not-short e = let c : _≡_ {A = ℕ} 0 1 = cc in omega arith
 not-surplus : {n : ℕ} → surplus ≡ breaks n → ⊥
 not-surplus e = let c : _≡_ {A = ℕ} 0 1 = cc in omega arith
 
--- a rule that is broken has such a number
+-- where a file is refused by a rule, p holds of the number of that rule
 pub number-given : {N A : Type 0} (p : ℕ → Bool) (m : Form N A) (f : List ℕ) (r : Refusal N) → Numbered p m → run m f ≡ refused r → (n : ℕ) → r .reason ≡ breaks n → T (p n)
 unfolding run
 number-given p (ret b) [] r h e n i = absurd (accepted-or-refused e)

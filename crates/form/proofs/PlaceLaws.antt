@@ -1,4 +1,8 @@
 -- The laws of the reader at a place: forms one after another are read one after another, and a whole file is read from its first byte.
+-- Each goes by induction over the form, with one case distinction at a field: it has a content, or it is refused. The step that joins the two
+-- readers is `look-place`: the field at place p of a file is the field with which the bytes from p on begin, since both ask whether p and the
+-- width lie in the file. With that `run-place` says for every place inside the file that running on the bytes behind it is reading from it, and
+-- `run-read` is the place 0.
 use Prim.Native.Nat.{ℕ, _+_, _≤_}
 use native.Mathlib.Nat.{add-zero}
 use native.Mathlib.Omega.{arith}
@@ -29,7 +33,7 @@ read-bind {N} {A} {B} (field ν κ rs next) k f p = by (fieldAt κ rs f p) (λ v
 
 -- ---- the whole file
 
--- the same refusal at another place
+-- a refusal, given at another place
 abbrev placed : {N A : Type 0} → Refusal N → ℕ → Answer N A
 placed r p = refused (record { reason = r .reason; place = p; width = r .width; name = r .name })
 

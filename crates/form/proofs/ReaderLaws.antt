@@ -1,5 +1,10 @@
 -- The laws of the reader, once for every form: it accepts exactly the filled forms, a refusal rests on the bytes through its field, and the
 -- bytes ahead of that field begin a filled form.
+-- All go by induction over the form, and `meet` gives the three cases at a field: too few bytes, a whole field that is refused, or a content,
+-- behind which the induction goes on with the place moved by the field's width (`Behind`). The bytes ahead of a refused field are the contents
+-- read so far, and they are filled up with any content of each field still to come, which a viable form has (`ahead`). A refusal other than for
+-- want of bytes is given again whatever follows its field (`local`), so a filled form that began with those bytes would be both accepted and
+-- refused (`through`).
 use Prim.Native.Nat.{ℕ, _+_, _≤_}
 use native.Mathlib.Nat.{zero-add}
 use native.Mathlib.Omega.{arith}
@@ -34,7 +39,7 @@ module _ (κ : Kind) (rs : Value κ → List Rule) where
   pub settle-content : (c : Content κ rs) → settle κ rs (spell κ (c .0)) ≡ has (c .0)
   settle-content c = rw (judge-spell κ (c .0) (c .1)) (obey-holds (rs (c .0)) (c .0) (c .2))
 
-  -- what is read is a content, and is spelled so
+  -- what is read of a whole field is a content, and its spelling is the bytes of the field
   settle-has : (f : List ℕ) (v : Value κ) → length f ≡ width κ → settle κ rs f ≡ has v → T (fits κ v) × Holds (rs v) × (spell κ v ≡ f)
   settle-has f v l e = by (judge κ f) refl e
     where
@@ -131,7 +136,7 @@ behind {N} w (refused q) r e =
       width = ap (λ (x : Refusal N). x .width) (sym h);
     }
 
--- it lies in the file, or at its end
+-- the place of a refusal lies in the file, or at its end
 pub place-inside : {N A : Type 0} (m : Form N A) (f : List ℕ) (r : Refusal N) → run m f ≡ refused r → r .place ≤ length f
 unfolding run
 place-inside (ret b) [] r e = absurd (accepted-or-refused e)
@@ -159,7 +164,7 @@ glue w q p f s t rest a b c = rw (a, b, c, take-add w q f, append-assoc)
 begins-with-nothing : {N A : Type 0} (m : Form N A) → Viable m → (f : List ℕ) (p : ℕ) → p ≡ 0 → Begins m (take p f)
 begins-with-nothing m q f p e = let r = some-filling m q in rw e (r, bytes m r, refl)
 
--- they begin a filled form
+-- the bytes ahead of the refused field begin a filled form
 pub ahead : {N A : Type 0} (m : Form N A) → Viable m → (f : List ℕ) (r : Refusal N) → run m f ≡ refused r → Begins m (take (r .place) f)
 unfolding run
 ahead (ret b) q [] r e = absurd (accepted-or-refused e)
@@ -178,12 +183,12 @@ ahead {N} (field ν κ rs next) q f r e =
 -- ---- the bytes through the refused field
 
 module _ {N A : Type 0} (ν : N) (κ : Kind) (rs : Value κ → List Rule) (next : Value κ → Form N A) (f rest : List ℕ) (l : width κ ≤ length f) where
-  -- the field itself, whatever follows it
+  -- the refused field is the first: its refusal is the same whatever follows
   through-it : (z : Reason) (n : ℕ) → settle κ rs (take (width κ) f) ≡ lacks z → n ≡ width κ
       → run (field ν κ rs next) (take n f ++ rest) ≡ refused (record { reason = z; place = 0; width = width κ; name = some ν })
   through-it z n j e = rw e (step ν κ rs next (take (width κ) f) rest (length-take-le (width κ) f l) ∙ rw j)
 
-  -- a field behind it
+  -- the refused field lies behind the first: the answer to the rest, moved on by the first width
   through-later : (v : Value κ) (n q : ℕ) (x : Answer N A) → settle κ rs (take (width κ) f) ≡ has v → run (next v) (take q (drop (width κ) f) ++ rest) ≡ x
       → n ≡ width κ + q → run (field ν κ rs next) (take n f ++ rest) ≡ later (width κ) x
   through-later v n q x j i e =
@@ -210,7 +215,7 @@ local {N} (field ν κ rs next) f r w e rest =
           through-later ν κ rs next f rest l v (r .place + r .width) (q .place + q .width) (refused q) j i o ∙ ap (later (width κ)) (sym (k .given)) ∙ sym c ∙ e
     ]
 
--- they begin no filled form
+-- the bytes through the refused field begin no filled form
 pub through : {N A : Type 0} (m : Form N A) (f : List ℕ) (r : Refusal N) → r .reason ≢ short → run m f ≡ refused r
     → ¬ Begins m (take (r .place + r .width) f)
 through m f r w e b = accepted-or-refused (sym (complete m b.0) ∙ ap (run m) b.2 ∙ local m f r w e b.1)

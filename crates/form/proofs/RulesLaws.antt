@@ -1,4 +1,7 @@
 -- A form and rules that speak of values alone: where the filled forms are the legal values, written out, the reader's laws speak of the rules.
+-- `Says` holds both directions of that: every legal value fills the form and gives its bytes, and every filled form tells a legal value. Filled
+-- forms are joined and parted along `>>=` by induction over the first form (`join`, `split`), so that a record can be shown to say its values
+-- stretch by stretch. The laws at the end carry those of `ReaderLaws` and `FilledLaws` over, each in one step through `fill` or `told`.
 use Prim.Native.Nat.{ℕ, _+_, _≤_}
 use native.Mathlib.Omega.{arith}
 use mathlib.Core.Path.{_≡_, refl, sym, ap, _∙_, subst}
@@ -39,7 +42,7 @@ pub viable-bind : {N A B : Type 0} (m : Form N A) (k : A → Form N B) → Viabl
 viable-bind (ret a) k q h = h tt
 viable-bind (field ν κ rs next) k q h = (q .0, λ c. viable-bind (next (c .0)) k (q .1 c) (λ r. h (c, r)))
 
--- filled forms of the two are a filled form of both
+-- a filling of the first form and one of the second make a filling of both, one after the other
 pub join : {N A B : Type 0} (m : Form N A) (k : A → Form N B) (r : Filled m) (s : Filled (k (value m r)))
     → Filling (m >>= k) (value (k (value m r)) s) (bytes m r ++ bytes (k (value m r)) s)
 join (ret a) k r s = (s, refl, refl)
@@ -48,7 +51,7 @@ join (field ν κ rs next) k r s =
     let i = join (next v) k (r .1) s in
     ((r .0, i.0), i.1, ap (λ (l : List ℕ). spell κ v ++ l) i.2 ∙ sym (append-assoc (spell κ v) (bytes (next v) (r .1)) (bytes (k (value (next v) (r .1))) s)))
 
--- and the other way round
+-- a filling of two forms, one after the other, is a filling of the first and one of the second
 pub split : {N A B : Type 0} (m : Form N A) (k : A → Form N B) (t : Filled (m >>= k))
     → (r : Filled m) × (s : Filled (k (value m r))) × (value (m >>= k) t ≡ value (k (value m r)) s) × (bytes (m >>= k) t ≡ bytes m r ++ bytes (k (value m r)) s)
 split (ret a) k t = (tt, t, refl, refl)
@@ -81,7 +84,7 @@ pub record Says {N A : Type 0} (m : Form N A) (Legal : A → Type 0) (write : A 
   pub fill : (a : A) → Legal a → Filling m a (write a)
   pub told : (r : Filled m) → Told Legal write (value m r) (bytes m r)
 
--- such a form, and then another
+-- a form whose fillings are the legal values, and then another form
 module _ {N A B : Type 0} (m : Form N A) (Legal : A → Type 0) (write : A → List ℕ) (says : Says m Legal write) (k : A → Form N B) where
   pub then-fill : (a : A) → Legal a → (s : Filled (k a)) → Filling (m >>= k) (value (k a) s) (write a ++ bytes (k a) s)
   then-fill a g =
@@ -114,7 +117,7 @@ module _ {N A : Type 0} (m : Form N A) (Legal : A → Type 0) (write : A → Lis
   pub legal-accepted : (f : List ℕ) (a : A) → Legal a → write a ≡ f → run m f ≡ accepted a
   legal-accepted f a l e = let r = says .fill a l in ap (run m) (sym (r.2 ∙ e)) ∙ complete m r.0 ∙ ap {B = Answer N A} accepted r.1
 
-  -- only one such value
+  -- two legal values that are written with the same bytes are the same
   pub only-one : (a b : A) → Legal a → Legal b → write a ≡ write b → a ≡ b
   only-one a b l k e = let p = legal-accepted (write b) a l e in let q = legal-accepted (write b) b k refl in cc
 
@@ -122,7 +125,7 @@ module _ {N A : Type 0} (m : Form N A) (Legal : A → Type 0) (write : A → Lis
   pub ahead-legal : Viable m → (f : List ℕ) (r : Refusal N) → run m f ≡ refused r → (rest : List ℕ) × (a : A) × Legal a × (write a ≡ take (r .place) f ++ rest)
   ahead-legal q f r e = let b = ahead m q f r e in let d = says .told b.0 in (b.1, d.0, d.1, sym d.3 ∙ b.2)
 
-  -- the bytes through it begin none
+  -- the bytes through the refused field begin no legal value written out
   pub through-none : (f : List ℕ) (r : Refusal N) → r .reason ≢ short → run m f ≡ refused r
       → (rest : List ℕ) (a : A) → Legal a → write a ≡ take (r .place + r .width) f ++ rest → ⊥
   through-none f r w e rest a l h = let s = says .fill a l in through m f r w e (s.0, rest, s.2 ∙ h)
@@ -135,7 +138,7 @@ module _ {N A : Type 0} (m : Form N A) (Legal : A → Type 0) (write : A → Lis
       let h : d.0 ≡ a = sym d.2 ∙ r.1 in
       (subst Legal h d.1, r.2 ∙ ap (λ (l : List ℕ). l ++ drop q f) (d.3 ∙ ap write h))
 
-  -- and one that stands there is read
+  -- a legal value that stands at a place written out is read there
   pub legal-read : (f : List ℕ) (p q : ℕ) (a : A) → p ≤ length f → q ≤ length f → Legal a → drop p f ≡ write a ++ drop q f → readAt m f p ≡ done a q
   legal-read f p q a h g l e =
       let r = says .fill a l in

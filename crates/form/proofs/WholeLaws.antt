@@ -30,7 +30,7 @@ ends-bind (ret a) k q middle e first second w h = h a q first
 ends-bind (field ν κ rs next) k q middle e first second w h =
     λ v. (omega (arith, w v .0), λ kept. ends-bind (next v) k (q + width κ) middle e (w v .0) second (w v .1 kept) h)
 
--- each kind has a value, so that the first field of such a form ends by e
+-- each kind has a value: so the first field of a form that ends by e ends by e itself
 some-value : (κ : Kind) → Value κ
 some-value (fixed bs) = tt
 some-value (digits w) = 0
@@ -40,7 +40,7 @@ some-value (choice w words) = []
 
 -- ---- what stops the reading
 
--- the bytes of a field, or a rule with such a number
+-- what stops a reading other than too few bytes: the bytes of a field, or a rule of whose number p holds
 pub data Stopped (p : ℕ → Bool) : Reason → Type 0 where
   by-bytes : {z : Reason} → OfBytes z → Stopped p z
   by-rule : (n : ℕ) → T (p n) → Stopped p (breaks n)

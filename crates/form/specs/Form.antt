@@ -52,11 +52,12 @@ abbrev pub Filled : {N A : Type 0} → Form N A → Type 0
 Filled (ret a) = Unit {0}
 Filled (field ν κ rs next) = (c : Content κ rs) × Filled (next (c .0))
 
--- what a filled form says, and its bytes
+-- what a filled form says
 abbrev pub value : {N A : Type 0} (m : Form N A) → Filled m → A
 value (ret a) r = a
 value (field ν κ rs next) r = value (next (r .0 .0)) (r .1)
 
+-- the bytes of a filled form
 abbrev pub bytes : {N A : Type 0} (m : Form N A) → Filled m → List ℕ
 bytes (ret a) r = []
 bytes (field ν κ rs next) r = spell κ (r .0 .0) ++ bytes (next (r .0 .0)) (r .1)

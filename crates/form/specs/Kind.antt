@@ -28,11 +28,12 @@ width (maybe w) = w
 width (text sign w) = w
 width (choice w words) = w
 
--- all of them are so; one of them is so
+-- all entries of a list pass the test
 abbrev pub every : {A : Type 0} → (A → Bool) → List A → Bool
 every p [] = true
 every p (x ∷ xs) = p x && every p xs
 
+-- one entry of a list passes the test
 abbrev pub one : {A : Type 0} → (A → Bool) → List A → Bool
 one p [] = false
 one p (x ∷ xs) = p x || one p xs

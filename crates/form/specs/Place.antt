@@ -13,7 +13,7 @@ use Rattle.form.specs.Reader.{surplus, Refusal, Answer, accepted, refuse
 unfoldable pub lookAt : (κ : Kind) → List ℕ → ℕ → Look (Value κ)
 lookAt κ f p = ifWhole (leb (p + width κ) (length f)) (judge κ (take (width κ) (drop p f)))
 
--- then its rules
+-- a field at place p: whole, then its bytes, then its rules
 abbrev pub fieldAt : (κ : Kind) → (Value κ → List Rule) → List ℕ → ℕ → Look (Value κ)
 fieldAt κ rs f p = _then_ (lookAt κ f p) (λ v. obey (rs v) v)
 
@@ -36,7 +36,7 @@ abbrev pub andThen : {N A B : Type 0} → Read N A → (A → ℕ → Read N B) 
 andThen (done a q) k = k a q
 andThen (halt r) k = halt r
 
--- nothing may follow
+-- a file is over where its last field ends: bytes behind that are surplus
 abbrev pub ifOver : {N A : Type 0} → Bool → A → ℕ → Answer N A
 ifOver true a q = accepted a
 ifOver false a q = refused (record { reason = surplus; place = q; width = 1; name = none })

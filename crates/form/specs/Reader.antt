@@ -77,7 +77,7 @@ ifWhole false l = lacks short
 abbrev pub look : (κ : Kind) → (Value κ → List Rule) → List ℕ → Look (Value κ)
 look κ rs f = ifWhole (leb (width κ) (length f)) (settle κ rs (take (width κ) f))
 
--- the same answer, w bytes further on
+-- an answer to what follows w bytes, as the answer to the whole: its place lies w bytes further on
 abbrev pub later : {N A : Type 0} → ℕ → Answer N A → Answer N A
 later w (accepted a) = accepted a
 later w (refused r) = refused (record { reason = r .reason; place = w + r .place; width = r .width; name = r .name })

@@ -1,4 +1,8 @@
 -- The letters of A3 and the kind of file that they tell, what the answers of the stretches tell, and that a header that was read is legal.
+-- The code keeps two facts in the place of the letters: that nothing is lost either way is tried for the four words and for the four kinds
+-- (`letters-among`, `kind-back`), and so a rule of the letters can be asked of the kind (`sending-test`). An answer of a stretch that gives was
+-- read, with the values and the place that it gives, since no variant is another (`zero-one`). A header that was read fills in the form of A,
+-- which says the legal headers (`header-says`).
 use Prim.Native.Nat.{ℕ}
 use mathlib.Core.Path.{_≡_, refl, sym, ap, _∙_, subst}
 use mathlib.Core.Logic.{inl, inr}
@@ -51,7 +55,7 @@ pub letters-back : (letters f : List ℕ) (p : ℕ) → lookAt (choice 2 fileKin
 letters-back letters f p e =
     letters-among letters (and-both (eqb (length letters) 2) (among fileKinds letters) (look-fits (choice 2 fileKinds) f p letters e) .1)
 
--- and the letters of a kind tell that kind
+-- the letters of a kind of file tell that kind
 pub kind-back : (k : FileKind) → kindOf (lettersOf k) ≡ k
 kind-back k = by (k .credit) (k .customer)
   where
@@ -131,6 +135,6 @@ header-legal f p q v e =
     let d = header-says .told r.0 in
     subst LegalHeader (sym d.2 ∙ r.1) d.1
 
--- and the kind that the code keeps of it has its letters
+-- the kind that the code keeps of a header that was read has the letters of its A3
 pub header-letters : (f : List ℕ) (p q : ℕ) (v : values.Header) → readAt header f p ≡ done v q → lettersOf (kindOf (v .fileKind)) ≡ v .fileKind
 header-letters f p q v e = letters-among (v .fileKind) (header-legal f p q v e .A3)

@@ -143,10 +143,10 @@ fn order_at(s: &[u8], p: usize, made: Day) -> OrderRead
         return OrderRead::Refused(a9.why());
     };
     let a10 = fields::number_at(s, p10, width::A10);
-    let Number::Is(reference, p11) = a10 else {
+    let Number::Is(reference, p11a) = a10 else {
         return OrderRead::Refused(a10.why());
     };
-    let a11a = fields::blanks_at(s, p11, width::A11A);
+    let a11a = fields::blanks_at(s, p11a, width::A11A);
     let Passed::To(p11b) = a11a else {
         return OrderRead::Refused(a11a.why());
     };

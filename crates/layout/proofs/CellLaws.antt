@@ -1,4 +1,8 @@
 -- The fields of a line, told by tables: those of A, the first twelve of a C, and the mark and the text of each part.
+-- All are few, so that each table and each formula is held against the definition by computing every entry (`agree`): 8 fields of A, 12 of a C,
+-- and the marks and texts of 15 parts. Behind the twelve, the number of a field tells its part by halving: even is the mark, odd the text
+-- (`mark-of-part`, `text-of-part`). All this is said of the longest C; a C of fewer parts has the first of these fields, by induction over the
+-- parts (`fields-first`).
 use Prim.Native.Nat.{ℕ, zero, suc, _+_, _-_, _*_, _/_, _%_, _≤_, _<_}
 use native.Mathlib.Omega.{arith}
 use mathlib.Core.Path.{_≡_, refl, sym, ap, ap₂, subst, _∙_}
@@ -23,7 +27,7 @@ beyond (x ∷ xs) (suc i) h = beyond xs i (omega arith)
 
 -- ---- A
 
--- by the code's tables
+-- field i of the line of A by the code's tables
 abbrev pub fieldOfA : ℕ → Cell
 fieldOfA i =
     record {
@@ -37,7 +41,7 @@ pub fields-of-A : (i : ℕ) → i < 8 → fieldOfA i ≡ cellAt true i
 unfolding below
 fields-of-A i h = agree fieldOfA (cellAt true) 8 i refl h
 
--- by entries of the tables
+-- what stands in the code's tables for field i of A is that field
 pub entries-of-A : (i p w : ℕ) → i < 8 → p ≡ fieldOfA i .place → w ≡ fieldOfA i .width
     → record { place = p; width = w; text = eqb i 3; optional = eqb i 7 } ≡ cellAt true i
 entries-of-A i p w h e f = ap₂ (λ (x y : ℕ). record { place = x; width = y; text = eqb i 3; optional = eqb i 7 }) e f ∙ fields-of-A i h
@@ -47,7 +51,7 @@ none-behind-A i h = sym (ap cellOf (beyond (cells 0 (recordOf true 15)) i h))
 
 -- ---- C
 
--- its first fields, by the code's tables
+-- field i of the line of a C, one of the first twelve, by the code's tables
 abbrev pub fieldOfC : ℕ → Cell
 fieldOfC i =
     record {
@@ -61,6 +65,7 @@ pub fields-of-C : (i : ℕ) → i < 12 → fieldOfC i ≡ cellAt false i
 unfolding below numeral toSectionEnd toNextPart
 fields-of-C i h = agree fieldOfC (cellAt false) 12 i refl h
 
+-- what stands in the code's tables for field i of a C is that field
 pub entries-of-C : (i p w : ℕ) → i < 12 → p ≡ fieldOfC i .place → w ≡ fieldOfC i .width
     → record { place = p; width = w; text = leb 9 i; optional = false } ≡ cellAt false i
 entries-of-C i p w h e f = ap₂ (λ (x y : ℕ). record { place = x; width = y; text = leb 9 i; optional = false }) e f ∙ fields-of-C i h
@@ -75,7 +80,7 @@ none-behind-C i h = sym (ap cellOf (beyond (cells 0 (recordOf false 15)) i h))
 abbrev pub mark : ℕ → ℕ
 mark k = cellAt false (12 + 2 * k) .place
 
--- none behind the last part
+-- there is no mark behind the last part
 pub no-mark : (k : ℕ) → 15 ≤ k → 0 ≡ mark k
 no-mark k h = ap (λ (c : Cell). c .place) (none-behind-C (12 + 2 * k) (omega arith))
 
@@ -133,7 +138,7 @@ parts-first (suc k) more p i =
     let all : suc k + more ≡ suc (k + more) = omega arith in
     rw (two, all, parts-first k more _ (suc i))
 
--- it has the first of the fields that the longest has
+-- a C of k parts has the first of the fields that the longest C has
 pub fields-first : (k : ℕ) → k ≤ 15 → cells 0 (recordC k) ≡ take (12 + 2 * k) (cellsOf false)
 unfolding numeral
 fields-first k h =

@@ -21,7 +21,7 @@ use Rattle.layout.specs.Widths as width
 use Rattle.layout.specs.Steps.{orNothing, partsAt}
 use Rattle.layout.proofs.StandLaws.{Stand, behind-first, Spells, numeral-spells, spells-at}
 
--- the fields of C
+-- all fields of a payment, its length among them
 abbrev pub fieldsOf : Payment → List (List ℕ)
 fieldsOf x = numeral width.C1 (lengthOf (length (x .parts))) ∷ fieldsOfC x
 
@@ -80,12 +80,12 @@ module _ {f : List ℕ} {p : ℕ} {x : Payment} (b : Begun f p x) where
         partCount = spells-at (numeral-spells c18 (omega arith) (omega arith)) (omega arith);
       }
 
-  -- the number of its parts, as C18 is read
+  -- what is read at C18 is the number of the payment's parts
   pub parts-there : partsAt f p ≡ length (x .parts)
   unfolding orNothing
   parts-there = ap orNothing (look-spelled (row .partCount))
 
-  -- the bytes that the code goes on by are those that it takes
+  -- the bytes that the code goes on by are those that the payment takes
   pub bytes-there : {k n : ℕ} → k ≡ partsAt f p → n ≡ 128 * section (min k mostParts) → n ≡ length (writePayment x)
   bytes-there {k} e i =
       let h = few in

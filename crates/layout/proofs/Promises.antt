@@ -59,7 +59,7 @@ widths (told κ ∷ ps) = width κ ∷ widths ps
 pub laid-A : widths recordA ≡ widthsOfA
 laid-A = refl
 
--- whatever the number of parts
+-- C1 to C18 of the record, whatever the number of parts
 pub laid-C : (k : ℕ) → take 21 (widths (recordC k)) ≡ widthsOfC
 unfolding numeral
 laid-C k = refl

@@ -91,7 +91,7 @@ pass-start f K k = record { left = paymentsOf (answer f); count = omega arith; c
 abbrev pub OnwardTo : List ℕ → ℕ → ℕ → Keeping → Keeping → Type 0
 OnwardTo f row p K K′ = (x : Payment) (xs : List Payment) → Begun f p x → K row p (x ∷ xs) → K′ (row + 1) (p + length (writePayment x)) xs
 
--- it is kept from one payment to the next
+-- what a loop keeps is the same for each payment
 abbrev pub Onward : List ℕ → ℕ → ℕ → Keeping → Type 0
 Onward f row p K = OnwardTo f row p K K
 
@@ -106,7 +106,7 @@ pub record Next (f : List ℕ) (K : Keeping) (row p : ℕ) (left : List Payment)
   pub kept : K row p (payment ∷ others)
 
 module _ {f : List ℕ} {K : Keeping} {row p : ℕ} (w : Passing f K row p) where
-  -- one is still to come
+  -- before all payments are passed, another stands at p
   pub next : row < length (paymentsOf (answer f)) → Next f K row p (w .left)
   next h = by (w .left) (w .count) (w .coming) (w .kept)
     where
@@ -115,7 +115,7 @@ module _ {f : List ℕ} {K : Keeping} {row p : ℕ} (w : Passing f K row p) wher
       by (x ∷ xs) e c k =
           record { payment = x; others = xs; is = refl; begun = first-begun c; inside = first-ends c; behind = others-coming c; kept = k }
 
-  -- none is
+  -- when all payments are passed, none is left
   pub none-left : length (paymentsOf (answer f)) ≤ row → w .left ≡ []
   none-left h = by (w .left) (w .count)
     where

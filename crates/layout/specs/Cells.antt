@@ -34,7 +34,7 @@ isOptional (maybe w) = true
 isOptional (text sign w) = false
 isOptional (choice w words) = false
 
--- a field of a line as the code has it; none has no width
+-- a field of a line as the code has it; where there is none, its width is 0
 abbrev pub cellOf : Option Cell → CodeCell
 cellOf none = record { place = 0; width = 0; text = false; optional = false }
 cellOf (some c) = record { place = c .place; width = width (c .kind); text = isText (c .kind); optional = isOptional (c .kind) }

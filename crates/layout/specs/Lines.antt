@@ -34,13 +34,14 @@ C11 = C10 + width.C10 + 1
 abbrev pub C12 : ℕ
 C12 = C11 + width.C11 + 1
 
--- the tab behind the last of them, with which the texts begin, and the first text
+-- the tab behind the last number, with which the texts begin
 abbrev pub tabOfTexts : ℕ
 tabOfTexts = C12 + width.C12
 
+-- where the first text stands
 abbrev pub texts : ℕ
 texts = tabOfTexts + 1
 
--- all of them, in the order of the line
+-- the places of all numbers, in the order of the line
 abbrev pub numbersOfLine : List ℕ
 numbersOfLine = C3 ∷ C4 ∷ C5 ∷ C6 ∷ C7a ∷ C7b ∷ C10 ∷ C11 ∷ C12 ∷ []

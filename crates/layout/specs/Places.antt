@@ -3,7 +3,7 @@ use Prim.Native.Nat.{ℕ, _+_}
 use mathlib.Core.List.{List, [], _∷_}
 use Rattle.layout.specs.Widths as width
 
--- of A
+-- the fields of A
 abbrev pub A1 : ℕ
 A1 = 0
 
@@ -46,7 +46,7 @@ A11c = A11b + width.A11b
 abbrev pub A12 : ℕ
 A12 = A11c + width.A11c
 
--- of C
+-- the fields of C
 abbrev pub C1 : ℕ
 C1 = 0
 
@@ -110,11 +110,11 @@ C17b = C17a + width.C17a
 abbrev pub C18 : ℕ
 C18 = C17b + width.C17b
 
--- its parts begin behind C18
+-- the parts of a payment begin behind C18
 abbrev pub parts : ℕ
 parts = C18 + width.C18
 
--- of E
+-- the fields of E
 abbrev pub E1 : ℕ
 E1 = 0
 
@@ -142,7 +142,7 @@ E8 = E7 + width.E7
 abbrev pub E9 : ℕ
 E9 = E8 + width.E8
 
--- all of them, in the order of the record
+-- the places of all fields, in the order of the record
 abbrev pub placesOfA : List ℕ
 placesOfA = A1 ∷ A2 ∷ A3 ∷ A4 ∷ A5 ∷ A6 ∷ A7 ∷ A8 ∷ A9 ∷ A10 ∷ A11a ∷ A11b ∷ A11c ∷ A12 ∷ []
 

@@ -12,7 +12,7 @@ mark = 2
 abbrev pub part : ℕ
 part = mark + text
 
--- of A
+-- the fields of A
 abbrev pub A1 : ℕ
 A1 = 4
 
@@ -55,7 +55,7 @@ A11c = 24
 abbrev pub A12 : ℕ
 A12 = 1
 
--- of C
+-- the fields of C
 abbrev pub C1 : ℕ
 C1 = 4
 
@@ -119,7 +119,7 @@ C17b = 2
 abbrev pub C18 : ℕ
 C18 = 2
 
--- of E
+-- the fields of E
 abbrev pub E1 : ℕ
 E1 = 4
 
@@ -147,7 +147,7 @@ E8 = 13
 abbrev pub E9 : ℕ
 E9 = 51
 
--- all of them, in the order of the record
+-- the widths of all fields, in the order of the record
 abbrev pub widthsOfA : List ℕ
 widthsOfA = A1 ∷ A2 ∷ A3 ∷ A4 ∷ A5 ∷ A6 ∷ A7 ∷ A8 ∷ A9 ∷ A10 ∷ A11a ∷ A11b ∷ A11c ∷ A12 ∷ []
 

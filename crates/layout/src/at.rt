@@ -1,7 +1,7 @@
 // Where the fields of A, C and E stand, from the first byte of the record: each behind the one before it.
 use crate::width;
 
-// Of A.
+// The fields of A.
 pub const A1: usize = 0;
 
 pub const A2: usize = A1 + width::A1;
@@ -30,7 +30,7 @@ pub const A11C: usize = A11B + width::A11B;
 
 pub const A12: usize = A11C + width::A11C;
 
-// Of C; its parts begin behind C18.
+// The fields of C; the parts begin behind C18.
 pub const C1: usize = 0;
 
 pub const C2: usize = C1 + width::C1;
@@ -75,7 +75,7 @@ pub const C18: usize = C17B + width::C17B;
 
 pub const PARTS: usize = C18 + width::C18;
 
-// Of E.
+// The fields of E.
 pub const E1: usize = 0;
 
 pub const E2: usize = E1 + width::E1;

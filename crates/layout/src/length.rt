@@ -12,9 +12,10 @@ pub const E: usize = SECTION;
 // The parts that a payment can have at the most.
 pub const MOST_PARTS: usize = 15;
 
-// The bytes that a payment takes at the least, and at the most.
+// The bytes that a payment takes at the least.
 pub const SHORTEST_C: usize = 2 * SECTION;
 
+// The bytes that a payment takes at the most.
 pub const LONGEST_C: usize = 6 * SECTION;
 
 // What C1 tells: the fields that every C has, and its parts, without the blanks that close its sections.

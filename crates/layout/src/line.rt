@@ -1,24 +1,28 @@
 // The lines of a listing: what parts and ends them, how many fields they have, and where the numbers of a payment's line stand.
 use crate::width;
 
-// What parts the fields of a line, and what ends it.
+// What parts the fields of a line.
 pub const TAB: u8 = b'\t';
 
+// What ends a line.
 pub const END: u8 = b'\n';
 
-// The letter ends where a tab stands, and the first field is behind that.
+// Where the letter of a line ends: there a tab stands.
 pub const LETTER_END: usize = 1;
 
+// Where the first field of a line stands: behind the letter and the tab.
 pub const FIRST: usize = LETTER_END + 1;
 
-// How many fields stand behind the letter: in the line of A; of full width in that of a payment, which are its numbers; in that of every
-// payment; in that of a payment with the most parts.
+// How many fields stand behind the letter in the line of A.
 pub const FIELDS_OF_A: usize = 8;
 
+// How many fields of a payment's line have their full width: its numbers, which come first.
 pub const NUMBERS_OF_C: usize = 9;
 
+// How many fields stand behind the letter in the line of a payment without parts.
 pub const FIELDS_OF_C: usize = 12;
 
+// How many fields stand behind the letter in the line of a payment with the most parts.
 pub const MOST_FIELDS: usize = FIELDS_OF_C + 2 * crate::length::MOST_PARTS;
 
 // Where the numbers of a payment's line stand, from the line's first byte, and where each ends: there a tab stands, and the next is behind it.
@@ -58,5 +62,5 @@ pub const C12: usize = C11_END + 1;
 
 pub const C12_END: usize = C12 + width::C12;
 
-// Where its texts begin.
+// Where the texts of a payment's line begin.
 pub const TEXTS: usize = C12_END + 1;

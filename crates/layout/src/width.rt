@@ -8,7 +8,7 @@ pub const MARK: usize = 2;
 
 pub const PART: usize = MARK + TEXT;
 
-// Of A.
+// The fields of A.
 pub const A1: usize = 4;
 
 pub const A2: usize = 1;
@@ -37,7 +37,7 @@ pub const A11C: usize = 24;
 
 pub const A12: usize = 1;
 
-// Of C.
+// The fields of C.
 pub const C1: usize = 4;
 
 pub const C2: usize = 1;
@@ -80,7 +80,7 @@ pub const C17B: usize = 2;
 
 pub const C18: usize = 2;
 
-// Of E.
+// The fields of E.
 pub const E1: usize = 4;
 
 pub const E2: usize = 1;

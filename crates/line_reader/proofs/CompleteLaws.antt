@@ -1,4 +1,9 @@
 -- Of a line of which composing makes a payment all is seen: its numbers stand at their places, its texts and parts where they are printed.
+-- This is the way back from `line-seen`. A line of which composing makes a payment is the printed line of a payment that may come next
+-- (`payment-heard`), so its fields stand one behind the other up to the line's end (`Printed`). They are gone through from the front: each
+-- number has its full width, so the next field stands at a fixed place (`at-C4` to `at-C14a`); a text ends with its signs, because a tab or the
+-- line's end stands behind it (`text-there`). What the walk asks of each field, and of the sums, is then a rule that the payment keeps
+-- (`whole-seen`).
 use Prim.Native.Nat.{ℕ, _+_, _-_, _<_}
 use native.Mathlib.Omega.{arith}
 use mathlib.Core.Path.{_≡_, refl, sym, ap, _∙_}
@@ -40,7 +45,7 @@ record Printed (l : List ℕ) (p s : ℕ) (x : Payment) : Type 0 where
   inside : s < length l
   end : getD l s 0 ≡ lineEnd
 
--- ---- where they stand
+-- ---- where the fields stand
 
 module _ {l : List ℕ} {p s : ℕ} {x : Payment} (line : Printed l p s x) where
   at-C4 : Fields l (p + (place.C4 - 1)) (drop 1 (paymentFields x)) s
@@ -169,7 +174,7 @@ module _ {l : List ℕ} {p s : ℕ} {x : Payment} (line : Printed l p s x) where
           parts = parts-there (line .inside) (line .end) end-C16 mostParts (x .parts) (legal-walked (map markOf (x .parts)) (legal .marks)) (legal .words) (behind-first at-C16 refl);
         }
 
--- the line t, which is ended
+-- of the line t, which is ended and of which composing makes the payment x, all is seen
 pub all-seen : (letters : List ℕ) (count : ℕ) (sums : Sums) (l : List ℕ) (p : ℕ) (t rest : List ℕ) (x : Payment) → drop p l ≡ t ++ (lineEnd ∷ rest)
     → composePayment letters (totalsOf count sums) p (split tab t) ≡ made x
     → Seen l p letters count sums (withPayment sums x) (length (x .parts)) (p + 1 + length (behindTabs (paymentFields x)))

@@ -1,5 +1,9 @@
 -- Fields of a line as they stand in the listing, one behind the other, a tab and a field each: put together from what was seen, and taken apart
 -- to see it.
+-- `Fields l q ts s` says that the listing from q on is these fields, each behind a tab, and then what stands from s on. A field is put ahead of
+-- such a stretch by its tab and its bytes (`one-field`), and taken off it again, which gives its tab, its bytes and the stretch behind it
+-- (`first-bytes`, `behind-first`). Bytes and values are joined by the laws of the form: a number that was read stands there spelled
+-- (`number-field`), and one that stands there spelled is read (`number-there`).
 use Prim.Native.Nat.{ℕ, suc, _+_, _^_, _≤_, _<_}
 use native.Mathlib.Numerals.{add-one}
 use native.Mathlib.Omega.{arith}
@@ -72,7 +76,7 @@ module _ (l : List ℕ) (at w v : ℕ) (rs : ℕ → List Rule) (there : fieldAt
   pub number-holds : Holds (rs v)
   number-holds = field-content (digits w) rs l at v there .1
 
-  -- behind its tab
+  -- a number that was read is, behind its tab, the first of the fields
   pub number-field : {q r s : ℕ} {ts : List (List ℕ)} → getD l q 0 ≡ tab → at ≡ q + 1 → r ≡ at + w → Fields l r ts s
       → Fields l q (numeral w v ∷ ts) s
   number-field {q} {r} e a b f =
@@ -81,7 +85,7 @@ module _ (l : List ℕ) (at w v : ℕ) (rs : ℕ → List Rule) (there : fieldAt
       (ap (λ (n : ℕ). drop n l) (sym a) ∙ bytes-there l at w r b ∙ ap (λ (x : List ℕ). x ++ drop r l) (sym (field-spelled (digits w) rs l at v there)))
       f
 
--- ---- taken apart
+-- ---- fields taken apart
 
 -- a byte with which the listing goes on at q
 pub byte-here : (l : List ℕ) (q : ℕ) {b : ℕ} {bs : List ℕ} → drop q l ≡ b ∷ bs → (q < length l) × (getD l q 0 ≡ b) × (drop (q + 1) l ≡ bs)
@@ -113,7 +117,7 @@ module _ {l : List ℕ} {q : ℕ} {t : List ℕ} {ts : List (List ℕ)} {s : ℕ
             ∙ drop-at t (behindTabs ts ++ drop s l) (length t) refl;
       }
 
--- behind the last of them
+-- behind the last field the stretch is over
 pub fields-over : {l : List ℕ} {q s : ℕ} → Fields l q [] s → s < length l → q ≡ s
 fields-over {l} {q} {s} f h = omega (arith, ap length (f .stand), length-drop q l, length-drop s l)
 

@@ -1,4 +1,9 @@
--- A number that keeps the rules of its field, one test after another; and that where a number is none, or fails a test, no number keeps them there.
+-- A number that keeps the rules of its field, one test after another; and that where a number is none, or fails a test, no number keeps them
+-- there.
+-- The rules of a field are tests in a row, so a number that was read and passed them is the field read with its rules, by rewriting alone
+-- (`kept-C4` to `kept-C12`). For the other half, a field is read once: whatever number keeps the rules there is the one that the code has read,
+-- and so it has passed the tests that the code made (`looked` and `keeps` of FieldLaws). A number that was refused or a test that failed
+-- therefore leaves none (`no-number`, `receiver-tests`, `amount-tests`).
 use Prim.Native.Nat.{ℕ, _+_}
 use mathlib.Core.Path.{_≡_, refl, sym, _∙_, subst}
 use mathlib.Core.Bool.{Bool, true, false, _&&_, not}
@@ -55,9 +60,9 @@ module _ (l : List ℕ) (q v : ℕ) where
   pub kept-C12 : (sum : ℕ) → lookAt (digits 11) l q ≡ has v → notZero v ≡ true → leb (sum + v) mostCents ≡ true → fieldAt (digits 11) (rulesC12 sum) l q ≡ has v
   kept-C12 sum content e i = rw (content, e, i)
 
--- ---- and where it does not, or is none, no number keeps them
+-- ---- where a number is none, or fails a test, no number keeps the rules
 
--- one that was refused
+-- where a number was refused, none is read
 pub no-number : {a : Number} (p n : ℕ) (x : Look ℕ) → a ≡ ofField numbers p n x → {r : Refusal} → a ≡ number.Refused r → {v : ℕ} → x ≡ has v → ⊥
 no-number p n x told given e = has-or-lacks (sym e ∙ fails numbers-told p n x told given refl .lack)
 

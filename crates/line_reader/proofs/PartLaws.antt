@@ -60,7 +60,7 @@ parts-told (ended h i) =
     record { parts = []; count = refl; few = omega arith; marks = tt; words = tt; fields = no-field _ _; inside = h; end = i }
 parts-told (more p ps) = part-told p (parts-told ps)
 
--- ---- and the other way round
+-- ---- the parts of a payment, where their fields stand
 
 pub parts-there : {l : List ℕ} {s : ℕ} → s < length l → getD l s 0 ≡ lineEnd → (q room : ℕ) (ps : List Part) → Walked room (map markOf ps) → All LegalWords ps
     → Fields l q (partFields ps) s → PartsTo l q room (length ps) s

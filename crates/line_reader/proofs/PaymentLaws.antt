@@ -1,4 +1,8 @@
 -- The line of a payment, seen stretch by stretch, is the line of a payment that may come next.
+-- The payment is put together from what was seen: its numbers as they were read, its texts filled up to their width, its parts (`paid`). Each of
+-- its rules is one that the walk has tested, so it is legal and the sums stay within their limits (`paid-legal`, `paid-good`). The line that
+-- stands at p is its printed line, field behind field from the letter to the line's end (`paid-fields`, `paid-line`), and of such a line
+-- composing makes the payment (`payment-composes`).
 use Prim.Native.Nat.{ℕ, _+_, _-_, _*_, _≤_, _<_, min}
 use native.Mathlib.Omega.{arith}
 use mathlib.Core.Path.{_≡_, refl, sym, ap, ap₂, _∙_}
@@ -181,7 +185,7 @@ module _ {l : List ℕ} {p : ℕ} {letters : List ℕ} {count : ℕ} {sums new :
         long = refl;
       }
 
-  -- its fields stand in the line
+  -- the payment's fields stand in the line
   paid-fields : Fields l (p + 1) (paymentFields paid) e
   paid-fields =
       let r = seen .numbers .receiver in

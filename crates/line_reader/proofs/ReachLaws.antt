@@ -37,7 +37,7 @@ module _ (z : ℕ) (l : List ℕ) (i : ℕ) where
 
 -- ---- past bytes that were looked at
 
--- if z was not found among the j bytes from p on, it is as far behind them
+-- where z was not found among the j bytes from p on, the first z from p on is the first behind them
 abbrev pub PastUnless : Bool → ℕ → List ℕ → ℕ → ℕ → Type 0
 PastUnless found z l p j = found ≡ false → reach z (drop p l) ≡ j + reach z (drop (p + j) l)
 

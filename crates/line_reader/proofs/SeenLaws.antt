@@ -1,5 +1,9 @@
 -- What the code has seen, put together: a text from its tab and its signs, parts one after another. Each of them stands at a place once, so
 -- that what was not seen is not there.
+-- The hard half are the answers no, which deny every text or part at a place. A tab has one text behind it, which ends where the signs end
+-- (`text-once`): so three texts, or parts, that stood there would begin with those that the code has seen, and where the code then said no they
+-- cannot go on (`none-behind-first`, `names-seen`, `behind-part`). The loop over the parts keeps both halves in `Followed`: what follows at q
+-- makes all parts with the k before it, and whatever all parts are, they go on at q.
 use Prim.Native.Nat.{ℕ, suc, _+_, _-_, _≤_, _<_}
 use native.Mathlib.Omega.{arith}
 use native.Mathlib.Decide.{decLe}
@@ -39,7 +43,7 @@ numbers-none {l} {p} {letters} {sums} n given = subst (Numbers l p letters sums)
 
 -- ---- a text
 
--- where the last byte, if there is one, is no blank
+-- bytes of which the last, if there is one, is no blank do not end in a blank
 ends-well : (x : List ℕ) → (0 < length x → getD x (length x - 1) 0 ≡ 0x20 → ⊥) → T (not (endsInBlank x))
 ends-well [] h = tt
 ends-well (b ∷ []) h = rw (ne-eqb b 0x20 (h (omega arith))) tt
@@ -47,7 +51,7 @@ ends-well (b ∷ c ∷ bs) h =
     let n : suc (suc (length bs)) - 1 ≡ suc (length (c ∷ bs) - 1) = omega arith in
     ends-well (c ∷ bs) (λ p e. h (omega arith) (ap (λ m. getD (b ∷ c ∷ bs) m 0) n ∙ e))
 
--- and the other way round
+-- of bytes that do not end in a blank the last is no blank
 last-no-blank : (x : List ℕ) → T (not (endsInBlank x)) → 0 < length x → getD x (length x - 1) 0 ≡ 0x20 → ⊥
 last-no-blank [] t h e = omega arith
 last-no-blank (b ∷ []) t h e = subst (λ c. T (not c)) (eq-eqb b 0x20 e) t
@@ -56,7 +60,7 @@ last-no-blank (b ∷ c ∷ bs) t h e =
     last-no-blank (c ∷ bs) t (omega arith) (sym (ap (λ m. getD (b ∷ c ∷ bs) m 0) n) ∙ e)
 
 module _ (l : List ℕ) (q e : ℕ) (inside : q < length l) (to : e ≡ signsEnd l (q + 1)) where
-  -- its last byte, where it has one
+  -- the last byte of what stands behind the tab, where there is one
   last-byte : 0 < length (behindTab l q e) → getD (behindTab l q e) (length (behindTab l q e) - 1) 0 ≡ getD l (e - 1) 0
   last-byte some =
       let m = e - (q + 1) in
@@ -71,7 +75,7 @@ module _ (l : List ℕ) (q e : ℕ) (inside : q < length l) (to : e ≡ signsEnd
   text-seen t n =
       record { inside = inside; tab = t; to = to; ends = ends-well (behindTab l q e) (λ some blank. n (sym (last-byte some) ∙ blank)) }
 
-  -- with a blank as its last byte it is none
+  -- where the byte ahead of e is a blank, no text stands behind the tab
   pub no-text : getD l (e - 1) 0 ≡ 0x20 → (f : ℕ) → Text l q f → ⊥
   no-text blank f t = by (decLe (q + 2) e)
     where
@@ -92,9 +96,9 @@ text-is {l} {q} t given = subst (Texts l q) given t
 pub text-none : {l : List ℕ} {q : ℕ} {a : TextSeen} → Texts l q a → a ≡ text.No → (e : ℕ) → Text l q e → ⊥
 text-none {l} {q} t given = subst (Texts l q) given t
 
--- ---- three of them
+-- ---- three texts
 
--- where the first was seen
+-- the first of three texts was seen
 module _ {l : List ℕ} {q first : ℕ} (a : Text l q first) where
   names-first : {e : ℕ} (t : ThreeTexts l q e) → t .first ≡ first
   names-first t = text-once (t .C14a) a
@@ -102,14 +106,14 @@ module _ {l : List ℕ} {q first : ℕ} (a : Text l q first) where
   pub none-first : first < q + 2 → (e : ℕ) → ThreeTexts l q e → ⊥
   none-first h e t = omega (arith, names-first t, t .C14a-some)
 
-  -- what stands behind it
+  -- the second stands behind the first that was seen
   names-behind : {e : ℕ} (t : ThreeTexts l q e) → Text l first (t .second)
   names-behind t = subst (λ n. Text l n (t .second)) (names-first t) (t .C15)
 
   pub none-behind-first : ((e : ℕ) → Text l first e → ⊥) → (e : ℕ) → ThreeTexts l q e → ⊥
   none-behind-first none e t = none (t .second) (names-behind t)
 
-  -- where the second was seen
+  -- the second of three texts was seen too
   module _ {second : ℕ} (b : Text l first second) where
     names-second : {e : ℕ} (t : ThreeTexts l q e) → t .second ≡ second
     names-second t = text-once (names-behind t) b
@@ -125,13 +129,13 @@ module _ {l : List ℕ} {q first : ℕ} (a : Text l q first) where
     names-seen m n (text.To e) c =
         record { first = first; second = second; C14a = a; C14a-some = m; C15 = b; C15-some = n; C16 = c }
 
--- three stand there once
+-- three texts stand at a place once
 pub names-once : {l : List ℕ} {q e f : ℕ} → ThreeTexts l q e → ThreeTexts l q f → e ≡ f
 names-once t u = text-once (names-last (u .C14a) (u .C15) t) (u .C16)
 
 -- ---- a part
 
--- where its number was read
+-- the number of a mark was read behind the tab at q
 module _ (l : List ℕ) (q : ℕ) {mark behind : ℕ} {a : Number} (told : a ≡ answers.ofField answers.numbers (q + 1) (q + 1 + 2) (lookAt (digits 2) l (q + 1)))
     (given : a ≡ number.Is mark behind) where
   read : (lookAt (digits 2) l (q + 1) ≡ has mark) × (behind ≡ q + 1 + 2)
@@ -195,7 +199,7 @@ module _ {l : List ℕ} {start q k room : ℕ} (f : Followed l start q k room) w
       let n : k + 0 ≡ k = omega arith in
       subst (λ (i : ℕ). PartsTo l start 15 i q) n (f .all 0 q (ended h i))
 
-  -- neither the line's end nor a part stands there
+  -- neither the line's end nor a part stands at q
   pub followed-none : (getD l q 0 ≡ lineEnd → ⊥) → ((m e : ℕ) → Part l q room m e → ⊥) → (n e : ℕ) → PartsTo l start 15 n e → ⊥
   followed-none end none n e ps = by (f .only n e ps .1)
     where
@@ -203,7 +207,7 @@ module _ {l : List ℕ} {start q k room : ℕ} (f : Followed l start q k room) w
       by (ended h i) = end i
       by (more p others) = none _ _ p
 
-  -- the listing is over
+  -- the listing is over at q
   pub followed-over : length l ≤ q → (n e : ℕ) → PartsTo l start 15 n e → ⊥
   followed-over h n e ps = by (f .only n e ps .1)
     where

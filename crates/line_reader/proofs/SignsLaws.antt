@@ -1,4 +1,8 @@
 -- Permitted signs from a place on: how a look at one more of them goes on or ends, how many there are, and where a text that is printed ends.
+-- What is said of `signsAhead` goes by induction over the bytes that may be looked at, with two cases for the next: a sign, or none. A loop that
+-- looks at one byte after another keeps `Looked`: the end is i and as many bytes as there are signs from i on. One sign more takes both on by
+-- one (`looked-more`); at another byte, behind 27 signs or at the end of the listing none is ahead, and the end is i (`looked-stop`,
+-- `looked-end`).
 use Prim.Native.Nat.{ℕ, zero, suc, _+_, _-_, _≤_, _<_, min}
 use native.Mathlib.Numerals.{add-one}
 use native.Mathlib.Omega.{arith}
@@ -19,7 +23,7 @@ every-append t (x ∷ xs) b g h =
     let k = and-both (t x) (every t xs) g in
     and-of (t x) (every t (xs ++ b)) k.0 (every-append t xs b k.1 h)
 
--- ---- how many there are
+-- ---- how many signs there are
 
 pub signs-few : (n : ℕ) (l : List ℕ) → signsAhead n l ≤ n
 unfolding signsAhead
@@ -54,7 +58,7 @@ signs-are (suc n) (b ∷ bs) = by (sign b) refl (signs-are n bs)
     by true p h = and-of (sign b) (every sign (take (signsAhead n bs) bs)) (T-of p) h
     by false p h = tt
 
--- signs that are no more than may be, and behind them a byte that is none
+-- at most n signs, and behind them a byte that is none: all of them are counted
 pub signs-printed : (n : ℕ) (t : List ℕ) (b : ℕ) (bs : List ℕ) → T (every sign t) → length t ≤ n → sign b ≡ false → signsAhead n (t ++ (b ∷ bs)) ≡ length t
 unfolding signsAhead
 signs-printed zero [] b bs h few other = refl
@@ -64,9 +68,9 @@ signs-printed (suc n) (x ∷ xs) b bs h few other =
     let k = and-both (sign x) (every sign xs) h in
     rw (is-true (sign x) k.0, signs-printed n xs b bs k.1 (omega arith) other)
 
--- ---- one more at a time
+-- ---- one sign more at a time
 
--- of those from p on, the ones before i have been looked at
+-- of the signs from p on, those before i have been looked at
 pub record Looked (l : List ℕ) (p i : ℕ) : Type 0 where
   pub on : p ≤ i
   pub few : i ≤ p + 27

@@ -1,5 +1,8 @@
 -- A text of a line: where it ends; made as wide as in its record a legal text, which a line prints as it stands here; and that a legal text
 -- stands where it is printed.
+-- What was seen has at most 27 bytes, all of them signs, and does not end in a blank: filled up with blanks it is a legal text, and trimmed
+-- again it is what was seen (`text-legal`, `text-printed`, by `trim-pad`). The other way, a printed text is all signs, and what stands behind
+-- it, a tab or the line's end, is none, so the signs end where the text does (`no-sign`, `text-there`).
 use Prim.Native.Nat.{ℕ, zero, suc, _+_, _-_, _≤_, _<_}
 use native.Mathlib.Omega.{arith}
 use mathlib.Core.Path.{_≡_, refl, sym, ap, _∙_, subst}
@@ -42,7 +45,7 @@ all-blank (b ∷ bs) h =
 abbrev pub wide : List ℕ → ℕ → ℕ → List ℕ
 wide l q e = pad 27 (behindTab l q e)
 
--- its bytes, where it ends with the signs behind its tab
+-- how many bytes a text has that ends with the signs behind its tab
 pub text-long : (l : List ℕ) (q e : ℕ) → q < length l → e ≡ signsEnd l (q + 1) → length (behindTab l q e) ≡ e - (q + 1)
 text-long l q e inside to =
     let h = signs-end-inside l (q + 1) (omega arith) in
@@ -99,7 +102,7 @@ module _ {l : List ℕ} {q e : ℕ} (t : TextThere l q e) where
       let on = text-on in
       rw text-printed (one-field l q e (behindTab l q e) (t .inside) (t .tab) (bytes-there l (q + 1) (e - (q + 1)) e (omega arith)) f)
 
--- ---- printed
+-- ---- a text that is printed
 
 -- what stands behind a field is no sign
 no-sign : (l : List ℕ) (s : ℕ) (ts : List (List ℕ)) → s < length l → getD l s 0 ≡ lineEnd
@@ -126,7 +129,7 @@ module _ (x : List ℕ) (legal : Text x) where
         ends = subst (λ (y : List ℕ). T (not (endsInBlank y))) (sym same) (trim-ends x);
       }
 
-  -- one that is not blank is not empty
+  -- a text that is not all blank is not printed empty
   pub printed-some : T (notAllBlank x) → 0 < length (trim x)
   printed-some some = by (trim x) refl
     where

@@ -18,7 +18,7 @@ use Rattle.line_reader.specs.Told.{paymentSeen, lineSeen}
 use Rattle.line_reader.proofs.PaymentLaws.{LineOf, Seen}
 use Rattle.line_reader.proofs.CompleteLaws.{all-seen}
 
--- a line that another piece follows
+-- what is told of a line that another piece follows
 pub first-line : (letters : List ℕ) (t : Totals) (sums : Sums) (p : ℕ) (x : List ℕ) (xs : List (List ℕ)) → Some xs
     → lineSeen letters t sums p (x ∷ xs) ≡ paymentSeen sums (p + suc (length x)) (composePayment letters t p (split tab x))
 unfolding lineSeen
@@ -53,7 +53,7 @@ module _ {l : List ℕ} {p : ℕ} {letters : List ℕ} {t : Totals} {sums new : 
       ∙ ap₂ (paymentSeen sums) behind composed
       )
 
--- ---- none
+-- ---- no payment's line
 
 module _ (letters : List ℕ) (count : ℕ) (sums : Sums) (l : List ℕ) (p : ℕ) where
   abbrev t : Totals

@@ -115,7 +115,7 @@ abbrev pub Texts : List ℕ → ℕ → TextSeen → Type 0
 Texts l q text.No = (e : ℕ) → Text l q e → ⊥
 Texts l q (text.To e) = Text l q e
 
--- three of them, the first two not empty
+-- three texts one behind the other, from the tab at q up to e, the first two not empty
 pub record ThreeTexts (l : List ℕ) (q e : ℕ) : Type 0 where
   pub first : ℕ
   pub second : ℕ

@@ -11,12 +11,12 @@ use Rattle.listing.specs.Composing.{Composed, made, denied, composePayment}
 use Rattle.line_reader.specs.declared.LineSeen.{LineSeen}
 use Rattle.line_reader.specs.declared.LineSeen.the-variants as seen
 
--- of a payment the sums with it, its bytes in the file, and the place behind its line
+-- what is told of a payment that is made: the sums with it, its bytes in the file, and the place behind its line
 abbrev pub paymentSeen : Sums → ℕ → Composed Payment → LineSeen
 paymentSeen sums next (made q) = seen.Is (withPayment sums q) (length (writePayment q)) next
 paymentSeen sums next (denied v) = seen.No
 
--- of the lines from p on the first, after payments that come to t; the last piece is no line, since nothing ends it
+-- what is told of the first of the lines from p on, after payments that come to t; the last piece is no line, since nothing ends it
 unfoldable pub lineSeen : List ℕ → Totals → Sums → ℕ → List (List ℕ) → LineSeen
 lineSeen kind t sums p [] = seen.No
 lineSeen kind t sums p (x ∷ []) = seen.No

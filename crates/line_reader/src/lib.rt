@@ -1,5 +1,5 @@
-// A payment's line read in one walk, straight from the listing, with no record laid out. Where composing makes no payment of the line the answer is
-// no, and the fault is named by the reading that lays out the record.
+// A payment's line read in one walk, straight from the listing, with no record laid out. Where composing makes no payment of the line the answer
+// is no, and the fault is named by the reading that lays out the record.
 ghost use mathlib.Core.Path.{_≡_};
 ghost use Prim.Native.Nat.{_+_, _≤_};
 ghost use lib.ListN.{length, drop};
@@ -196,7 +196,8 @@ fn numbers_at(l: &[u8], p: usize, kind: FileKind, sums: Sums) -> NumbersSeen
     })
 }
 
-// Whether b is a permitted sign. Here bytes are tried one by one, and one look at the bits is less than the three ranges and two signs of `fields`.
+// Whether b is a permitted sign. Here bytes are tried one by one, and one look at the bits is less than the three ranges and two signs of
+// `fields`.
 fn is_sign(b: u8) -> bool
     ensures { λ r. ⌜ r ≡ sign b ⌝ }
 {
@@ -240,7 +241,7 @@ fn text_at(l: &[u8], q: usize) -> TextSeen
     TextSeen::To(e)
 }
 
-// C14a, C15 and C16, the tab of the first at q. The first two are not empty.
+// C14a, C15 and C16, each from its tab on, the first at q. The first two are not empty.
 fn names_at(l: &[u8], q: usize) -> TextSeen
     ensures { λ r. ⌜ Names (now (l .entry)) q r ⌝ }
 {

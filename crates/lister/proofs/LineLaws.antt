@@ -1,4 +1,8 @@
 -- The line of a record, field by field: what one field more adds, and how long it is.
+-- By induction over the cells (`cell-lies`) field i lies in the file, and what is printed of it comes right behind the fields before it, with a
+-- tab between (`tabbed-more`). A loop that counts keeps `Counting`: so far it has the letter, the line's end and i fields, and with all n fields
+-- that is the length of the line (`count-ends`). No field is printed wider than its cell, so the widths of all cells, 631 bytes, bound every
+-- count (`count-short`), and none wraps.
 use Prim.Native.Nat.{ℕ, zero, suc, _+_, _-_, _≤_, _<_}
 use native.Mathlib.Nat.{add-sub-cancel-left}
 use native.Mathlib.Numerals.{add-one}
@@ -82,12 +86,12 @@ across-all : (head : Bool) → across (cellsOf head) ≤ 631
 across-all true = lit≤ tt
 across-all false = lit≤ tt
 
--- no line is long
+-- the fields of a line, with their tabs, take at most 631 bytes
 tabbed-short : (head : Bool) (n : ℕ) (f : List ℕ) (p : ℕ) → length (tabbed f p (take n (cellsOf head))) ≤ 631
 tabbed-short head n f p =
     omega (arith, tabbed-across f p (take n (cellsOf head)), across-take n (cellsOf head), across-all head)
 
--- a letter, the fields and the line's end
+-- a line is as long as its fields, and two bytes more for the letter and the line's end
 pub line-long : (head : Bool) (n : ℕ) (f : List ℕ) (p : ℕ) → length (lineAt head n f p) ≡ 2 + length (tabbed f p (take n (cellsOf head)))
 line-long head n f p =
     let t = tabbed f p (take n (cellsOf head)) in

@@ -42,7 +42,7 @@ is-accepted file told zero = (sym (ap (λ (x : Checked). x .verdict .number) tol
 abbrev RefusedAs : Answer Name Document → Type 0
 RefusedAs a = listed a ≡ refuses (outcome a .verdict)
 
--- every file is acceptable or refused so
+-- every file is acceptable or is refused with the verdict of the check
 pub acceptable-or-refused : (file : List ℕ) → Acceptable file ⊎ RefusedAs (answer file)
 unfolding outcome listed
 acceptable-or-refused file = by (answer file) refl
@@ -51,7 +51,7 @@ acceptable-or-refused file = by (answer file) refl
     by (accepted d) i = inl (accepted-exactly file .0 (d, i))
     by (refused z) i = inr refl
 
--- with a number of a listing call
+-- a refused listing has one of the numbers of a listing call
 pub listed-number : (file : List ℕ) → RefusedWith (0 ∷ ofList) (listed (answer file))
 unfolding outcome listed
 listed-number file = by (answer file) (form.number-listed file)
@@ -77,12 +77,12 @@ module _ (file old : List ℕ) {c : Checked} (told : c ≡ checkedOf (outcome (a
     listing-written : end ≡ writes (listingOf file)
     listing-written = let i = listed-as file (accepts-exactly file c told .0 zero) in i ∙ ap (λ e. writes (written e)) (sym i)
 
-    -- all of it is written
+    -- the whole listing is written
     pub list-full : length (listingOf file) ≤ length old → {m : ℕ} → m ≡ length (listingOf file) → {new : List ℕ} → new ≡ filled (listingOf file) old
         → Says file old (record { verdict = accepting; length = m }) new
     list-full h long n = ends-written end old listing-written h (ap (λ (m : ℕ). record { verdict = accepting; length = m }) long) n
 
-    -- the test of the room says whether it is
+    -- the test of the room says whether the listing can be written
     module _ {b : Bool} (e : b ≡ leb (length (listingOf file)) (length old)) where
       pub list-no-room : not b ≡ true → {v : Verdict} → v ≡ refusing 16 0 → {r : Written} → r ≡ writtenOf (refuses v) → Says file old r old
       list-no-room n w g = ends-short end old listing-written (leb-false (length (listingOf file)) (length old) (sym e ∙ not-true b n)) w g

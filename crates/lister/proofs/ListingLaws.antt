@@ -1,4 +1,8 @@
 -- An accepted file, line by line: what is listed of it before a payment, and the line of the next one.
+-- The listing is that of the one reading: the line of A, and the lines of the payments, which part at every row (`listing-parted`, by induction
+-- over the payments). A loop over the payments has `Standing`: `row` payments are passed, those from that row on are still to come, and the
+-- first of them stands at p. What is printed at p is then the next line of the listing (`line-more`, by `payment-line`), and behind the last
+-- payment all is listed (`stand-ends`). No line is longer than its record, so the listing is no longer than the file (`listing-short`).
 use Prim.Native.Nat.{ℕ, zero, suc, _+_, _≤_, _<_}
 use native.Mathlib.Numerals.{add-one}
 use native.Mathlib.Omega.{arith}
@@ -32,14 +36,14 @@ payments-short kind (q ∷ qs) a =
     let w = length-append (writePayment q) (writePayments qs) in
     omega (arith, payment-short q (a .0), payments-short kind qs (a .1))
 
--- those of the first payments, and then those of the others
+-- the lines of payments are those of the first `row`, and then those of the others
 lines-parted : (row : ℕ) (ps : List Payment) → paymentLines ps ≡ paymentLines (take row ps) ++ paymentLines (drop row ps)
 lines-parted zero ps = refl
 lines-parted (suc row) [] = refl
 lines-parted (suc row) (q ∷ qs) =
     ap (λ bs. paymentLine q ++ bs) (lines-parted row qs) ∙ sym (append-assoc (paymentLine q) (paymentLines (take row qs)) (paymentLines (drop row qs)))
 
--- one payment more
+-- the lines of one payment more end in its line
 lines-more : (row : ℕ) (ps : List Payment) (x : Payment) (xs : List Payment) → x ∷ xs ≡ drop row ps
     → paymentLines (take (suc row) ps) ≡ paymentLines (take row ps) ++ paymentLine x
 lines-more zero ps x xs e = ap (λ l. paymentLines (take 1 l)) (sym e) ∙ append-nil (paymentLine x)
@@ -49,12 +53,12 @@ lines-more (suc row) (q ∷ qs) x xs e =
 
 -- ---- the file
 
--- an acceptable one is listed as its document
+-- an acceptable file is listed as its document
 pub listed-as : (f : List ℕ) (x : Acceptable f) → listed (answer f) ≡ writes (listing (x .0))
 unfolding listed
 listed-as f x = rw (accepted-reading f x)
 
--- the bytes of its listing
+-- the bytes of a file's listing
 abbrev pub listingOf : List ℕ → List ℕ
 listingOf f = written (listed (answer f))
 
@@ -88,7 +92,7 @@ module _ (n : ℕ) (f : List ℕ) (a : AcceptedFile n f) where
   listing-is : listingOf f ≡ listing d
   listing-is = ap written (listed-as f found)
 
-  -- it is no longer than the file
+  -- the listing is no longer than the file
   pub listing-short : length (listingOf f) ≤ length f
   listing-short =
       let ends = writeEnd (totals (d .payments)) ++ [] in
@@ -99,14 +103,14 @@ module _ (n : ℕ) (f : List ℕ) (a : AcceptedFile n f) where
       let c = payments-short (d .header .fileKind) (d .payments) (found .1 .payments) in
       omega arith
 
-  -- the line of A, the lines before this row, and those from it on
+  -- the listing is the line of A, the lines before this row, and those from it on
   listing-parted : (row : ℕ) → listingOf f ≡ lineOfA f ++ (linesTo f row ++ paymentLines (drop row (paymentsOf (answer f))))
   listing-parted row =
       listing-is
       ∙ ap₂ (λ bs ps. bs ++ paymentLines ps) (sym (header-line (d .header) (found .1 .header) starts-with-A)) (sym payments-are)
       ∙ ap (λ bs. lineOfA f ++ bs) (lines-parted row (paymentsOf (answer f)))
 
-  -- what is listed before this row is no longer than all of it
+  -- what is listed before this row is no longer than the whole listing
   pub done-within : (row : ℕ) → length (lineOfA f) + length (linesTo f row) ≤ length (listingOf f)
   done-within row =
       let rest = paymentLines (drop row (paymentsOf (answer f))) in
@@ -146,7 +150,7 @@ module _ {f : List ℕ} {n p row : ℕ} (s : Standing f n p row) where
     here : Next f (FromRow f) row p (s .passing .left)
     here = next (s .passing) still-coming
 
-    -- the code has read the number of its parts
+    -- k is the number of parts that C18 of the next payment tells
     module _ {k : ℕ} (told : k ≡ partsAt f p) where
       pub next-few : k ≤ mostParts
       next-few = payment-few (here .begun) told
@@ -157,7 +161,7 @@ module _ {f : List ℕ} {n p row : ℕ} (s : Standing f n p row) where
       pub next-formed : Formed false (fieldsWith k) f p
       next-formed = payment-fields-formed (here .begun) told
 
-      -- its line is the next
+      -- the next line of the listing is that of the payment at p
       pub line-more : linesTo f (row + 1) ≡ linesTo f row ++ lineAt false (fieldsWith k) f p
       line-more =
           let x = here in

@@ -1,4 +1,8 @@
 -- The two ways through an accepted file: one counts the bytes of its listing, the other prints them.
+-- Both keep `Standing`, and beside it what they have: the one the length of the lines so far (`Measuring`), the other these lines in the output,
+-- behind that of A (`Listing`). A turn adds the line of the payment that stands at p (`line-more`). What there is so far is never longer than
+-- the whole listing (`done-within`): so the output has room for the next line (`line-room`), and the count stays within the file's length and
+-- does not wrap (`measure-room`).
 use Prim.Native.Nat.{ℕ, _+_, _≤_, _<_}
 use native.Mathlib.Omega.{arith}
 use mathlib.Core.Path.{_≡_, refl, sym, ap, ap₂, _∙_}
@@ -32,11 +36,11 @@ module _ {f : List ℕ} {n m p row : ℕ} (s : Measuring f n m p row) where
         let e = ap length (line-more (s .standing) h told) ∙ length-append (linesTo f row) (lineAt false (fieldsWith k) f p) in
         omega (arith, s .long)
 
-    -- on to the next payment
+    -- the line of the payment at p is counted, and the next payment stands at q
     pub measure-more : {q : ℕ} → Passing f (FromRow f) (row + 1) q → Measuring f n (m + r) q (row + 1)
     measure-more w = record { standing = record { accepted = s .standing .accepted; passing = w }; long = longer }
 
-    -- the file is no shorter
+    -- what is counted is no longer than the file
     pub measure-room : m + r ≤ length f
     measure-room = let a = s .standing .accepted in omega (arith, longer, done-within n f a (row + 1), listing-short n f a)
 
@@ -83,7 +87,7 @@ module _ {f : List ℕ} {n : ℕ} {old : List ℕ} {a : ℕ} {out : List ℕ} {q
     pub line-room : q + length fresh ≤ length out
     line-room = omega (arith, done-within n f (s .standing .accepted) (row + 1), longer-by, s .first, s .room, s .long, s .here)
 
-    -- the line of the next payment, and on to the one behind it
+    -- the line of the payment at p is printed, and the next payment stands at p′
     pub list-more : {out′ : List ℕ} {q′ p′ : ℕ} → q′ ≡ q + length fresh → out′ ≡ over q fresh out → Passing f (FromRow f) (row + 1) p′
         → Listing f n old a out′ q′ p′ (row + 1)
     list-more {out′} g o w =
@@ -102,11 +106,11 @@ module _ {f : List ℕ} {n : ℕ} {old : List ℕ} {a : ℕ} {out : List ℕ} {q
           holds = is;
         }
 
-  -- behind the last of them
+  -- behind the last line, the place is the length of the listing
   pub list-long : n ≤ row → q ≡ length (listingOf f)
   list-long h = omega (arith, s .here, s .first, ap length (stand-ends (s .standing) h), length-append (lineOfA f) (linesTo f row))
 
-  -- where the line of A stands before, all of them are there
+  -- behind the last line, where the line of A stood in the output from the start, the whole listing stands there
   pub list-ends : n ≤ row → (before : List ℕ) → length (listingOf f) ≤ length before → old ≡ over 0 (lineOfA f) before → out ≡ filled (listingOf f) before
   list-ends h before r o =
       let front = lineOfA f in

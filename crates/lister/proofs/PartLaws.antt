@@ -53,7 +53,7 @@ module _ (part : ℕ) (h : part < mostParts) where
         let place : a + width.mark ≡ p + cellAt false (fieldsWith part + 1) .place = omega (arith, text-place, place-is) in
         ap₂ (λ w j. trim (take w (drop j f))) (sym text-width) place
 
--- one stretch behind the other
+-- two stretches written one behind the other are both written
 module _ (m t old : List ℕ) (at : ℕ) (r : at + length (m ++ t) ≤ length old) {mid : List ℕ} (o : mid ≡ over at m old) where
   both : length (m ++ t) ≡ length m + length t
   both = length-append m t

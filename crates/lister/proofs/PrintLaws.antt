@@ -1,4 +1,8 @@
 -- A line printed into the output, field by field: what is still to come is written where the code stands, and the line is whole.
+-- `Going` is kept from stretch to stretch: what is still to come, written where the code stands, makes the output what it was to become. A
+-- stretch that is printed goes off the front of what is still to come (`going-more`, by `over-next`), be it a field, all numbers, or mark and
+-- text of a part (`rest-field`, `rest-numbers`, `rest-part`), and two ways are put together by `going-on`. Behind the last field the line's end
+-- alone is still to come, and setting it makes the line whole (`line-ends`).
 use Prim.Native.Nat.{ℕ, zero, suc, _+_, _-_, _≤_, _<_}
 use native.Mathlib.Nat.{add-zero}
 use native.Mathlib.Numerals.{add-one}
@@ -26,7 +30,7 @@ module _ (a w : ℕ) (f : List ℕ) {n : ℕ} (e : n ≡ length (trim (take w (d
   pub printed-narrow : n ≤ w
   printed-narrow = omega (arith, length-trim (take w (drop a f)), length-take w (drop a f))
 
-  -- so many bytes from its first on are what is printed of it
+  -- the first n bytes of the field are what is printed of it
   pub bytes-are : take (a + n - a) (drop a f) ≡ trim (take w (drop a f))
   bytes-are =
       let field = take w (drop a f) in
@@ -48,7 +52,7 @@ module _ (head : Bool) (i : ℕ) (f : List ℕ) (p : ℕ) {c : CodeCell} (e : c 
 set-over : (q b : ℕ) (old : List ℕ) → q < length old → set old q b ≡ over q (b ∷ []) old
 set-over q b old h = ap₂ (λ o j. set o j b) (sym (over-nothing q old)) (sym (add-zero q)) ∙ over-more q b [] old (omega arith)
 
--- a tab, and bytes behind it
+-- a tab that is set, and bytes copied behind it, are both written
 pub behind-tab : (t old : List ℕ) (at : ℕ) → at + suc (length t) ≤ length old → overIfRoom (at + 1) t (set old at tab) ≡ over at (tab ∷ t) old
 behind-tab t old at h =
     over-room (at + 1) t (set old at tab) (omega (arith, length-set old at tab))
@@ -57,8 +61,8 @@ behind-tab t old at h =
 
 -- ---- one stretch after another
 
--- `rest i` is what comes from field i on. From field j on, whose place was `from`, to field i at `at`: with what comes from there on, the output is
--- what it was to become
+-- `rest i` is what comes from field i on. The code went from field j, whose place was `from`, to field i at `at`: with what comes from there on,
+-- the output is what it was to become
 pub record Going (rest : ℕ → List ℕ) (old : List ℕ) (from j : ℕ) (out : List ℕ) (at i : ℕ) : Type 0 where
   pub room : at + length (rest i) ≤ length out
   pub long : length out ≡ length old
@@ -70,16 +74,16 @@ module _ {rest : ℕ → List ℕ} where
       → Going rest older q k out at i
   going-on a b = record { room = b .room; long = b .long ∙ a .long; place = b .place ∙ a .place; whole = b .whole ∙ a .whole }
 
-  -- the same field, told otherwise
+  -- the way to a field, where the field is counted in another way
   pub going-at : {old out : List ℕ} {from at j i k : ℕ} → Going rest old from j out at i → i ≡ k → Going rest old from j out at k
   going-at {old} {out} {from} {at} {j} g e = subst (Going rest old from j out at) e g
 
   module _ {old out : List ℕ} {from at j i : ℕ} (g : Going rest old from j out at i) where
-    -- where the code goes on by another loop
+    -- a new way begins where this one has come to, as where the code goes on by another loop
     pub going-start : Going rest out at i out at i
     going-start = record { room = g .room; long = refl; place = refl; whole = refl }
 
-    -- where nothing more comes
+    -- where nothing more comes, all is written
     pub going-ends : rest i ≡ [] → (at ≡ from + length (rest j)) × (out ≡ over from (rest j) old)
     going-ends e =
         let none : length (rest i) ≡ 0 = ap length e in
@@ -121,14 +125,14 @@ cut-parted f p (c ∷ cs) (suc n) (suc m) h =
     let t = tab ∷ trim (take (width (c .kind)) (drop (p + c .place) f)) in
     ap (λ bs. t ++ bs) (cut-parted f p cs n m (omega arith)) ∙ sym (append-assoc t (tabbed f p (take m cs)) (tabbed f p (drop m (take n cs))))
 
--- of the numbers that the line of a payment begins with
+-- of the numbers that the line of a payment begins with, those from number i on
 abbrev pub numbersFrom : List ℕ → ℕ → ℕ → List ℕ
 numbersFrom f p i = tabbed f p (drop i (take numbersOfPaymentLine (cellsOf false)))
 
 pub numbers-more : (f : List ℕ) (p i : ℕ) → i < numbersOfPaymentLine → numbersFrom f p i ≡ (tab ∷ printedField false i f p) ++ numbersFrom f p (suc i)
 numbers-more f p i h = ap behindTabs (cut-more f p (cellsOf false) numbersOfPaymentLine i h (omega arith))
 
--- of the line, with its end
+-- of a line what comes from field i on, with the line's end
 abbrev pub restOf : Bool → ℕ → List ℕ → ℕ → ℕ → List ℕ
 restOf head n f p i = tabbed f p (drop i (take n (cellsOf head))) ++ (lineEnd ∷ [])
 
@@ -138,7 +142,7 @@ module _ (head : Bool) (n : ℕ) (f : List ℕ) (p : ℕ) (l : Lies head n f p) 
       rw (cut-more f p (cellsOf head) n i h (l .0), add-one i)
       (append-assoc (tab ∷ printedField head i f p) (tabbed f p (drop (suc i) (take n (cellsOf head)))) (lineEnd ∷ []))
 
-  -- the next field
+  -- the next field has room, and is printed
   module _ {old out : List ℕ} {from at j i : ℕ} (g : Going (restOf head n f p) old from j out at i) (h : i < n) where
     pub field-room : at + suc (length (printedField head i f p)) ≤ length out
     field-room = going-room g (tab ∷ printedField head i f p) (i + 1) (rest-field i h)
@@ -147,7 +151,7 @@ module _ (head : Bool) (n : ℕ) (f : List ℕ) (p : ℕ) (l : Lies head n f p) 
         → Going (restOf head n f p) old from j out′ at′ (i + 1)
     field-more = going-more g (tab ∷ printedField head i f p) (i + 1) (rest-field i h)
 
--- a payment has numbers first and parts last
+-- the line of a payment has numbers first and parts last
 module _ (n : ℕ) (f : List ℕ) (p : ℕ) (l : Lies false n f p) where
   pub rest-numbers : numbersOfPaymentLine ≤ n → restOf false n f p 0 ≡ numbersAt f p ++ restOf false n f p numbersOfPaymentLine
   rest-numbers h =
@@ -166,7 +170,7 @@ module _ (n : ℕ) (f : List ℕ) (p : ℕ) (l : Lies false n f p) where
 
 -- ---- the line
 
--- the line's end, at its place, makes it whole
+-- the line's end, set at its place, makes the line whole
 pub record Ended (head : Bool) (n : ℕ) (f : List ℕ) (p : ℕ) (old : List ℕ) (q : ℕ) (out : List ℕ) (at : ℕ) : Type 0 where
   pub room : at < length out
   pub long : length out ≡ length old
@@ -184,11 +188,11 @@ module _ (head : Bool) (n : ℕ) (f : List ℕ) (p : ℕ) (old : List ℕ) (q : 
   long-line : length (lineAt head n f p) ≡ suc (length fields)
   long-line = ap length line-is
 
-  -- behind the letter
+  -- behind the letter all fields are still to come
   pub line-start : Going (restOf head n f p) (set old q letter) (q + 1) 0 (set old q letter) (q + 1) 0
   line-start = record { room = omega (arith, h, long-line, length-set old q letter); long = refl; place = refl; whole = refl }
 
-  -- behind the last field
+  -- behind the last field the line's end alone is still to come
   pub line-ends : {out : List ℕ} {at i : ℕ} → n ≤ i → Going (restOf head n f p) (set old q letter) (q + 1) 0 out at i → Ended head n f p old q out at
   line-ends {out} {at} {i} e g =
       let few : length (take n (cellsOf head)) ≤ i = omega (arith, length-take n (cellsOf head)) in

@@ -21,7 +21,7 @@ use Rattle.lister.proofs.ListingLaws.{listed-as}
 use Rattle.lister.proofs.ListLaws.{Says, acceptable-or-refused, else-refused, listed-number}
 
 module _ (file old : List ℕ) where
-  -- with room enough
+  -- how the call ends with room enough
   abbrev end : Ending
   end = listed (answer file)
 
@@ -33,7 +33,7 @@ module _ (file old : List ℕ) where
     pub refused-as-checked : ¬ Acceptable file → r ≡ record { verdict = outcome (answer file) .verdict; length = 0 }
     refused-as-checked n = endings.refused-as end old r new says (else-refused file n)
 
-    -- with the number and the place of the field that is wrong
+    -- a file that is not acceptable gets the number and the place of the field that is wrong
     pub refused-file : ¬ Acceptable file → RefusedFile file (r .verdict)
     refused-file n = subst (RefusedFile file) (sym (ap (λ (w : Written). w .verdict) (refused-as-checked n))) (form.else-refused file n)
 
@@ -45,7 +45,7 @@ module _ (file old : List ℕ) where
     pub refused-untouched : r .verdict .number ≢ 0 → new ≡ old
     refused-untouched = endings.refused-untouched end old r new says
 
-    -- and any call leaves it as it was past the length given
+    -- any call leaves the output as it was past the length given
     pub tail-is : drop (r .length) new ≡ drop (r .length) old
     tail-is = endings.tail-is end old r new says
 

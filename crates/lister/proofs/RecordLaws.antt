@@ -1,4 +1,9 @@
--- Records that stand in a file, A or a payment: their fields lie in it, their lines are those of the listing, and no line is longer than its record.
+-- Records that stand in a file, A or a payment: their fields lie in it, their lines are those of the listing, and no line is longer than its
+-- record.
+-- The cells of a record lie in it one behind the other, so in the file too (`cells-lie`, by induction over the record's pieces). A legal record
+-- is its fields laid out, and what is laid out is cut into the same fields (`cut-laid`), so what is printed of the cells is the line of the
+-- listing. A line is longest where every field has its full width: 168 bytes for a payment, and 31 for each part; no payment's record has fewer
+-- bytes, since it takes whole sections (`payment-wide`).
 use Prim.Native.Nat.{ℕ, zero, suc, _+_, _-_, _*_, _/_, _≤_}
 use native.Mathlib.Omega.{arith}
 use mathlib.Core.Path.{_≡_, refl, sym, ap, _∙_}
@@ -33,7 +38,7 @@ use Rattle.lister.proofs.LineLaws.{across, tabbed-across, line-long}
 
 -- ---- the cells of a record
 
--- they lie in the file where the record does
+-- the cells lie in the file where the record does
 cells-lie : (f : List ℕ) (p s : ℕ) (ps : List Piece) → p + (s + span ps) ≤ length f
     → T (every (λ (c : Cell). leb (p + (c .place + width (c .kind))) (length f)) (cells s ps))
 cells-lie f p s [] h = tt
@@ -55,7 +60,7 @@ module _ (h : Header) (l : LegalHeader h) {f : List ℕ} {others : List (List �
       ap (line (ascii "A"))
       (cut-laid f 0 recordA (headerFields h) rest (header-formed h l) (from-first s refl ∙ ap (λ bs. bs ++ rest) (sym (header-laid h l))))
 
--- its line is no longer than A
+-- the line of A is no longer than A
 pub header-short : (h : Header) → LegalHeader h → length (headerLine h) ≤ length (writeHeader h)
 header-short h l =
     let f = writeHeader h in
@@ -65,7 +70,7 @@ header-short h l =
 
 -- ---- a payment
 
--- the most that a line takes: 31 bytes for each part, and 168 without them
+-- the most that the fields of a payment's line take: 31 bytes for each part, and 166 without them; letter and line's end take two more
 parts-across : (p i k : ℕ) → across (cells p (recordParts i k)) ≡ 31 * k
 parts-across p i zero = refl
 parts-across p i (suc k) = omega (arith, parts-across (p + length (blanks (toNextPart i)) + widths.mark + widths.text) (suc i) k)
@@ -74,7 +79,7 @@ record-across : (k : ℕ) → across (cells 0 (recordC k)) ≡ 166 + 31 * k
 unfolding numeral
 record-across k = omega (arith, parts-across place.parts 0 k)
 
--- no payment takes fewer
+-- no payment has fewer bytes than its line can have
 payment-wide : (kind : List ℕ) (q : Payment) → LegalPayment kind q → 168 + 31 * length (q .parts) ≤ length (writePayment q)
 payment-wide kind q l = by (leb (length (q .parts)) 2) refl
   where
@@ -86,7 +91,7 @@ payment-wide kind q l = by (leb (length (q .parts)) 2) refl
         let s : section (length (q .parts)) ≡ 3 + (length (q .parts) - 3) / 4 = rw e in
         omega (arith, payment-length kind q l, leb-false (length (q .parts)) 2 e)
 
--- it begins at p, and the code has read the number of its parts
+-- the payment q begins at p, and k is the number of parts that its C18 tells
 module _ {f : List ℕ} {p : ℕ} {q : Payment} (b : Begun f p q) {k : ℕ} (count : k ≡ partsAt f p) where
   parts-are : k ≡ length (q .parts)
   parts-are = count ∙ parts-there b
@@ -104,7 +109,7 @@ module _ {f : List ℕ} {p : ℕ} {q : Payment} (b : Begun f p q) {k : ℕ} (cou
       let m = span-C (length (q .parts)) (few b) in
       (omega (arith, payment-few), rw (← fields-are) (cells-lie f p 0 (recordC (length (q .parts))) (omega arith)))
 
-  -- its fields are cut out of the file
+  -- what is cut out of the file are the payment's fields
   payment-cut : cut f p (take (fieldsWith k) (cellsOf false)) ≡ paymentFields q
   payment-cut =
       let rest = b .stand .rest in
@@ -118,7 +123,7 @@ module _ {f : List ℕ} {p : ℕ} {q : Payment} (b : Begun f p q) {k : ℕ} (cou
   pub payment-line : lineAt false (fieldsWith k) f p ≡ paymentLine q
   payment-line = ap (line (ascii "C")) payment-cut
 
--- its line is no longer than it
+-- the line of a payment is no longer than the payment
 pub payment-short : {kind : List ℕ} (q : Payment) → LegalPayment kind q → length (paymentLine q) ≤ length (writePayment q)
 payment-short {kind} q l =
     let f = writePayment q in

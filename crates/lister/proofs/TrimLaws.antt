@@ -18,7 +18,7 @@ unfolding trim
 trim-blank [] = refl
 trim-blank (x ∷ xs) = rw (trim-blank xs)
 
--- any other byte there keeps all before it
+-- a byte at the end that is no blank keeps all before it
 trim-sign : (xs : List ℕ) (b : ℕ) → eqb b 0x20 ≡ false → trim (xs ++ (b ∷ [])) ≡ xs ++ (b ∷ [])
 trim-sign xs b e =
     let t = xs ++ (b ∷ []) in
@@ -29,7 +29,7 @@ trim-sign xs b e =
     last-byte (x ∷ []) = refl
     last-byte (x ∷ y ∷ ys) = last-byte (y ∷ ys)
 
--- there is nothing but blanks from i on
+-- the text has nothing but blanks from i on
 pub record Trimming (t : List ℕ) (i : ℕ) : Type 0 where
   pub inside : i ≤ length t
   pub rest : trim t ≡ trim (take i t)

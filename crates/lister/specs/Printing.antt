@@ -17,11 +17,11 @@ use Rattle.layout.specs.Cells.{letterOf, cellsOf, cellAt}
 abbrev pub lineAt : Bool → ℕ → List ℕ → ℕ → List ℕ
 lineAt head n f p = line (letterOf head) (cut f p (take n (cellsOf head)))
 
--- there are n such fields, and each lies in the file
+-- a line can have n fields behind its letter, and of the record at p these n lie in the file
 abbrev pub Lies : Bool → ℕ → List ℕ → ℕ → Type 0
 Lies head n f p = (n ≤ length (cellsOf head)) × T (every (λ (c : Cell). leb (p + (c .place + width (c .kind))) (length f)) (take n (cellsOf head)))
 
--- each of them has the width that a line gives it: a number stands there in full
+-- of the record at p the first n fields have the width that a line gives them: a number stands there in full
 abbrev pub Formed : Bool → ℕ → List ℕ → ℕ → Type 0
 Formed head n f p = let cs = take n (cellsOf head) in T (formed cs (cut f p cs))
 

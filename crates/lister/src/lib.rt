@@ -62,7 +62,7 @@ fn print_behind_tab(t: &[u8], out: &mut [u8], at: usize) -> usize
     at + 1 + t.len()
 }
 
-// Prints the field of w bytes at a so, without its trailing blanks.
+// Prints a tab and the field of w bytes at a, without its trailing blanks, into the output from `at` on, and tells the place behind it.
 fn print_trimmed(s: &[u8], a: usize, w: usize, out: &mut [u8], at: usize) -> usize
     requires { ⌜ (a + w ≤ length (now s)) × (at + suc (length (trim (take w (drop a (now s))))) ≤ length (now out)) ⌝ }
     ensures place { λ r. ⌜ r ≡ at + suc (length (trim (take w (drop a (now (s .entry)))))) ⌝ }
@@ -72,7 +72,7 @@ fn print_trimmed(s: &[u8], a: usize, w: usize, out: &mut [u8], at: usize) -> usi
     print_behind_tab(&s[a..a + n], out, at)
 }
 
-// Prints field i of the record at p so.
+// Prints a tab and field i of the record at p, without its trailing blanks, and tells the place behind it.
 fn print_field(head: bool, i: usize, s: &[u8], p: usize, out: &mut [u8], at: usize) -> usize
     requires { ⌜ FieldLies head i (now s) p × (at + suc (length (printedField head i (now s) p)) ≤ length (now out)) ⌝ }
     ensures place { λ r. ⌜ r ≡ at + suc (length (printedField head i (now (s .entry)) p)) ⌝ }
@@ -82,7 +82,8 @@ fn print_field(head: bool, i: usize, s: &[u8], p: usize, out: &mut [u8], at: usi
     print_trimmed(s, p + c.place, c.width, out, at)
 }
 
-// Prints field i of the payment at p, a number: it stands there in full width, so that no blank is looked for.
+// Prints a tab and field i of the payment at p, and tells the place behind it. The field is a number and stands there in full width, so that no
+// blank is looked for.
 fn print_number(i: usize, s: &[u8], p: usize, out: &mut [u8], at: usize) -> usize
     requires { ⌜ FieldLies false i (now s) p × (length (printedField false i (now s) p) ≡ cellAt false i .width) × (at + suc (length (printedField false i (now s) p)) ≤ length (now out)) ⌝ }
     ensures place { λ r. ⌜ r ≡ at + suc (length (printedField false i (now (s .entry)) p)) ⌝ }
@@ -110,8 +111,8 @@ fn print_header(s: &[u8], out: &mut [u8]) -> usize
     at + 1
 }
 
-// Prints the numbers that the line of a payment begins with, `line::NUMBERS_OF_C` of them. Each has a call of its own, and no loop counts them, so
-// that the compiler knows the width of each.
+// Prints the numbers that the line of a payment begins with, `line::NUMBERS_OF_C` of them, and tells the place behind them. Each has a call of its
+// own, and no loop counts them, so that the compiler knows the width of each.
 fn print_numbers(s: &[u8], p: usize, out: &mut [u8], at: usize) -> usize
     requires { ⌜ NumbersLie (now s) p × (at + length (numbersAt (now s) p) ≤ length (now out)) ⌝ }
     ensures place { λ r. ⌜ r ≡ at + length (numbersAt (now (s .entry)) p) ⌝ }
@@ -128,7 +129,7 @@ fn print_numbers(s: &[u8], p: usize, out: &mut [u8], at: usize) -> usize
     print_number(8, s, p, out, q)
 }
 
-// Prints mark and text of a part of the payment at p. All parts have the same widths.
+// Prints mark and text of a part of the payment at p, each behind a tab, and tells the place behind them. All parts have the same widths.
 fn print_part(part: usize, s: &[u8], p: usize, out: &mut [u8], at: usize) -> usize
     requires { ⌜ (part < mostParts) × PartLies part (now s) p × (at + length (partAt part (now s) p) ≤ length (now out)) ⌝ }
     ensures place { λ r. ⌜ r ≡ at + length (partAt part (now (s .entry)) p) ⌝ }
@@ -179,7 +180,7 @@ fn listing_length(s: &[u8], n: usize) -> usize
     total
 }
 
-// Whether an output of so many bytes has room for it.
+// Whether an output of `room` bytes has room for the listing of an accepted file of n payments.
 fn has_room(s: &[u8], n: usize, room: usize) -> bool
     requires { ⌜ AcceptedFile n (now s) ⌝ }
     ensures { λ r. ⌜ r ≡ leb (length (written (listed (answer (now (s .entry)))))) room ⌝ }
@@ -191,7 +192,7 @@ fn has_room(s: &[u8], n: usize, room: usize) -> bool
     listing_length(s, n) <= room
 }
 
-// Prints it, and tells its length.
+// Prints the listing of an accepted file of n payments from the start of the output on, and tells its length.
 fn print_listing(s: &[u8], n: usize, out: &mut [u8]) -> usize
     requires { ⌜ AcceptedFile n (now s) × (length (written (listed (answer (now s)))) ≤ length (now out)) ⌝ }
     ensures length { λ r. ⌜ r ≡ length (written (listed (answer (now (s .entry))))) ⌝ }

@@ -34,7 +34,7 @@ execution-laid : (e : Option Day) → pad 8 (printExecution e) ≡ writeExecutio
 execution-laid none = pad-nothing 8
 execution-laid (some d) = pad-number 8 (toDDMMYYYY d)
 
--- made wide they are the record
+-- the printed fields of a legal header, made wide, are its record
 pub header-laid : (h : Header) → LegalHeader h → lay recordA (headerFields h) ≡ writeHeader h
 header-laid h l =
     rw (

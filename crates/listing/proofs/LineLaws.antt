@@ -1,4 +1,8 @@
 -- Lines and fields: rows of bytes are parted at a sign and joined again, and trailing blanks are taken away and put back.
+-- Parting and trimming go by induction over the row, with two cases for its first byte: whether it is the sign, or whether it is a blank with
+-- nothing left behind it. Pieces that have not the sign in them are parted as they were joined (`split-sign`, `split-end`), and every row joins
+-- up again from its pieces (`join-split`); for lines of fields and for listings of lines both directions follow from that. A text of full width
+-- is its trimmed form filled up with blanks, and a field that does not end in a blank is its wide form trimmed (`pad-trim`, `trim-pad`).
 use Prim.Native.Nat.{ℕ, zero, suc, _+_, _-_, _≤_}
 use native.Mathlib.Omega.{arith}
 use mathlib.Core.Path.{_≡_, refl, sym, ap, ap₂, _∙_}
@@ -83,7 +87,7 @@ join-onto z b r (some x (y ∷ ys)) = refl
 join-sign : (z : ℕ) (r : List (List ℕ)) → Some r → join z ([] ∷ r) ≡ z ∷ join z r
 join-sign z r (some x xs) = refl
 
--- joined again they are what was parted
+-- the pieces of a row, joined again, are the row
 pub join-split : (z : ℕ) (bs : List ℕ) → join z (split z bs) ≡ bs
 unfolding split
 join-split z [] = refl
@@ -104,7 +108,7 @@ pub fields-parted : (t : List ℕ) (ts : List (List ℕ)) → Clear tab (t ∷ t
 fields-parted t [] h = ap (split tab) (append-nil t) ∙ split-end tab t h.0
 fields-parted t (u ∷ us) h = split-sign tab t (u ++ behindTabs us) h.0 ∙ ap (λ (l : List (List ℕ)). t ∷ l) (fields-parted u us h.1)
 
--- and they make up the line
+-- the fields that a line is parted into make up the line
 pub line-from : (x t : List ℕ) (ts : List (List ℕ)) → split tab x ≡ t ∷ ts → t ++ behindTabs ts ≡ x
 line-from x t ts e = tabs-between t ts ∙ ap (join tab) (sym e) ∙ join-split tab x
 
@@ -122,13 +126,14 @@ clear-fields (t ∷ ts) h = clear-append lineEnd t (behindTabs ts) h.0 (clear-fi
 pub line-ended : (letter : List ℕ) (ts : List (List ℕ)) (rest : List ℕ) → line letter ts ++ rest ≡ (letter ++ behindTabs ts) ++ (lineEnd ∷ rest)
 line-ended letter ts rest = simp append-assoc
 
+-- a listing is parted into its first line and the pieces of what follows
 pub line-parted : (letter : List ℕ) (ts : List (List ℕ)) (rest : List ℕ) → Clear lineEnd (letter ∷ ts)
     → split lineEnd (line letter ts ++ rest) ≡ (letter ++ behindTabs ts) ∷ split lineEnd rest
 line-parted letter ts rest h =
     ap (split lineEnd) (line-ended letter ts rest)
     ∙ split-sign lineEnd (letter ++ behindTabs ts) rest (clear-append lineEnd letter (behindTabs ts) h.0 (clear-fields ts h.1))
 
--- and the other way round
+-- a piece that is parted into a letter and fields is, with its line end, the line of these
 pub line-joined : (x letter : List ℕ) (ts : List (List ℕ)) (rest more : List ℕ) → split tab x ≡ letter ∷ ts → rest ≡ more
     → x ++ (lineEnd ∷ rest) ≡ line letter ts ++ more
 line-joined x letter ts rest more e i =
@@ -154,7 +159,7 @@ length-trim (b ∷ bs) = by (eqb b 0x20 && empty (trim bs)) (length-trim bs)
     by true h = omega arith
     by false h = omega arith
 
--- what was taken away comes back
+-- a trimmed row, and as many blanks as were taken away, is the row
 trim-back : (s : List ℕ) → trim s ++ blanks (length s - length (trim s)) ≡ s
 unfolding trim
 trim-back [] = refl
@@ -176,7 +181,7 @@ trim-back (b ∷ bs) = by (eqb b 0x20 && empty (trim bs)) refl (trim-back bs)
 pub trim-take : (s : List ℕ) → take (length (trim s)) s ≡ trim s
 trim-take s = ap (take (length (trim s))) (sym (trim-back s)) ∙ take-append-seam (trim s) (blanks (length s - length (trim s)))
 
--- what is left does not end in a blank
+-- a trimmed row does not end in a blank
 pub trim-ends : (s : List ℕ) → T (not (endsInBlank (trim s)))
 unfolding trim
 trim-ends [] = tt

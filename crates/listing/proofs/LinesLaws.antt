@@ -1,4 +1,8 @@
 -- The lines of a listing, one after another: the lines of good payments are composed to them, and no other lines are composed.
+-- The first goes by induction over the payments, the second by induction over the lines; both keep what the payments before come to and how many
+-- may still come, which together are the most that there are. One line is the law of `PaymentLaws`, and what is asked of all payments is parted
+-- into what is asked of the first and of the others, or joined again (`good-first`, `good-others`, `good-both`). Behind the last line end comes
+-- an empty piece, and there at least one payment must have been told.
 use Prim.Native.Nat.{ℕ, suc, _+_, _-_, _≤_}
 use native.Mathlib.Omega.{arith}
 use mathlib.Core.Path.{_≡_, refl, sym, ap, _∙_, subst}
@@ -75,7 +79,7 @@ module _ (left : ℕ) (kind : List ℕ) (t : Totals) (q : Payment) (qs : List Pa
 
 -- ---- the payments' lines
 
--- so many payments may still come
+-- the lines of payments that are good after payments which come to t; left: how many may still come
 pub payments-compose : (left : ℕ) (kind : List ℕ) (t : Totals) (p : ℕ) (qs : List Payment) → t .count + left ≡ mostPayments
     → GoodFrom left kind t qs → composePayments kind t p (split lineEnd (paymentLines qs)) ≡ made qs
 unfolding composePayments split

@@ -1,5 +1,8 @@
 -- What a refused listing is given: one of the numbers of a listing, and a place in it or at its end. The records that its lines stand for are
 -- whole, so 1 is not among them; C1 is made from the number of parts, so 5 is not; and no E is read, so 14 and 15 are not.
+-- What stops the reading of a whole record is the bytes of a field or a rule of the record (`stopped`), and at C1 only the two limits are left
+-- (`first-stops`). The place goes by induction over the lines: a refusal in a line lies in that line (`in-line`), and each line with its end
+-- lies ahead of the listing's end (`Given`).
 use Prim.Native.Nat.{ℕ, suc, _+_, _^_, _≤_}
 use native.Mathlib.Omega.{arith}
 use mathlib.Core.Path.{_≡_, refl, sym, ap, _∙_, subst}
@@ -44,7 +47,7 @@ stopped-number xs w (by-bytes no-digit) = tt
 stopped-number xs w (by-bytes no-sign) = tt
 stopped-number xs w (by-rule n h) = one-within xs ofListing n w h
 
--- the number of a refusal by such a record
+-- a refused field has one of the numbers of a listing
 abbrev Listed : Refusal Name → Type 0
 Listed r = T (oneOf ofListing (numberOf (r .reason)))
 
@@ -60,7 +63,7 @@ module _ (kind : List ℕ) (t : Totals) (k : ℕ) (few : k ≤ 15) (ts : List (L
   abbrev laid : List ℕ
   laid = lay (recordC k) ts
 
-  -- the record begins with the length that its parts have
+  -- the record of a payment with k parts begins with the length that k parts have
   length-there : lookAt (digits 4) laid 0 ≡ has l
   unfolding lookAt
   length-there =
@@ -69,7 +72,7 @@ module _ (kind : List ℕ) (t : Totals) (k : ℕ) (few : k ≤ 15) (ts : List (L
       ap (λ b. ifWhole b (judge (digits 4) (take 4 laid))) whole ∙ ap (judge (digits 4)) bytes
       ∙ judge-spell (digits 4) l (lt→ltb l (10 ^ 4) (omega arith))
 
-  -- which is a length of C
+  -- the length that k parts have is a length of C: only the limits, 6 and 9, can stop the reading there
   first-stops : (z : Reason) → obey (firstField t l) l ≡ lacks z → Stopped (oneOf (6 ∷ 9 ∷ [])) z
   first-stops z e =
       let test = (eqb l 128 && leb 1 (t .count)) || isLength l in
@@ -112,7 +115,7 @@ given-then end (denied v) k g h = g
 
 -- ---- one line
 
--- no field stands behind its line
+-- where a refused field stands in a line: at most at the end of the line
 in-line : (cs : List Cell) (ts : List (List ℕ)) (q p : ℕ) → inLine cs ts q p ≤ q + length (behindTabs ts)
 in-line [] ts q p = omega arith
 in-line (c ∷ cs) [] q p = omega arith

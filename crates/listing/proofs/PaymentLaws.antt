@@ -1,4 +1,8 @@
 -- The line of a C: the fields of a payment that may come next are composed to it, and a line that is composed to a payment has its fields.
+-- C with its length says the payments that may come next (`next-says`): behind C1 by `payment-says`, and at C1 the limits are asked, since no
+-- length of C is that of E. The printed fields have their form (`payment-formed`) and, made wide, are the record (`payment-laid`), so that the
+-- laws of any line (`ComposingLaws`) give both directions. The hard step is the way back: the record is made with as many parts as the number of
+-- fields tells, and its C1 shows that the payment read from it has as many (`same-parts`).
 use Prim.Native.Nat.{ℕ, suc, _*_, _^_, _≤_, _<_}
 use native.Mathlib.Omega.{arith}
 use mathlib.Core.Path.{_≡_, refl, sym, ap, _∙_, subst}
@@ -35,7 +39,7 @@ use Rattle.listing.proofs.PrintedLaws.{AllPrinted, printed-formed, prin
 
 -- ---- the length of the record
 
--- 128 bytes for each section
+-- the record of a payment with k parts takes 128 bytes for each section
 pub span-C : (k : ℕ) → k ≤ 15 → span (recordC k) ≡ 128 * section k
 unfolding below numeral toSectionEnd toNextPart
 span-C k h = eqb→eq (span (recordC k)) (128 * section k) (below-all (λ k. eqb (span (recordC k)) (128 * section k)) 16 k tt (omega arith))
@@ -47,7 +51,7 @@ parts-laid i [] a = append-nil (blanks (toSectionEnd i))
 parts-laid i (q ∷ qs) a =
     rw (pad-number 2 (q .mark), pad-trim 27 (q .words) (a .0 .long), parts-laid (suc i) qs a.1, append-nil (writeParts (suc i) qs))
 
--- made wide they are the record
+-- the printed fields of a legal payment, made wide, are its record
 pub payment-laid : (kind : List ℕ) (q : Payment) → LegalPayment kind q → lay (recordC (length (q .parts))) (paymentFields q) ≡ writePayment q
 payment-laid kind q l =
     rw (
@@ -95,11 +99,12 @@ payment-formed kind q l = printed-formed (cells 0 (recordC (length (q .parts))))
 pub payment-clear : (kind : List ℕ) (q : Payment) → LegalPayment kind q → Clear tab (paymentFields q) × Clear lineEnd (paymentFields q)
 payment-clear kind q l = printed-clear (cells 0 (recordC (length (q .parts)))) (paymentFields q) (payment-printed kind q l)
 
--- their number tells the number of parts
+-- two fields are printed for each part
 part-fields : (ps : List Part) → length (partFields ps) ≡ 2 * length ps
 part-fields [] = refl
 part-fields (q ∷ qs) = let i = part-fields qs in omega arith
 
+-- the number of printed fields tells the number of parts
 pub parts-counted : (q : Payment) → length (q .parts) ≤ 15 → partsOf (length (ascii "C" ∷ paymentFields q)) ≡ length (q .parts)
 parts-counted q h = let i = part-fields (q .parts) in omega arith
 
@@ -176,7 +181,7 @@ same-parts k ts q rest h i e =
     = sym (number-numeral 4 (lengthOf k) (omega arith)) ∙ ap number c ∙ number-numeral 4 (lengthOf j) (omega arith) in
     omega arith
 
--- with so many parts, its fields are those of the line
+-- a line that was composed to q, its record made with as many parts as q has, has the fields of q
 heard-fields : (kind : List ℕ) (t : Totals) (ts : List (List ℕ)) (q : Payment)
     → Heard (Next kind t) writePayment (ascii "C") (recordC (length (q .parts))) ts q → ts ≡ ascii "C" ∷ paymentFields q
 heard-fields kind t ts q x =

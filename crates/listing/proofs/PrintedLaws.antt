@@ -1,4 +1,7 @@
 -- Fields as a line prints them: each has the form of its kind, and no tab and no line end in it.
+-- A number is printed in digits and a text in permitted signs, and neither tab nor line end is one of those (`avoids`). No field ends in a
+-- blank: a digit is none, and a text has lost its trailing ones (`trim-ends`). The four words for the kind of file are tried one by one
+-- (`among-every`).
 use Prim.Native.Nat.{ℕ, _^_, _<_, _≤_}
 use native.Mathlib.Omega.{arith}
 use mathlib.Core.Path.{_≡_, refl, ap, _∙_, subst}
@@ -22,7 +25,7 @@ pub record Printed (κ : Kind) (t : List ℕ) : Type 0 where
   pub no-tab : T (clear tab t)
   pub no-end : T (clear lineEnd t)
 
--- each field of a line
+-- each field of a line is printed as the kind of its cell asks
 abbrev pub AllPrinted : List Cell → List (List ℕ) → Type 0
 AllPrinted [] [] = Unit {0}
 AllPrinted [] (t ∷ ts) = ⊥
@@ -72,7 +75,7 @@ number-printed w n h =
       no-end = avoids lineEnd digit refl t d;
     }
 
--- a date that may be absent
+-- a date in a field that may also be empty
 pub date-printed : (w n : ℕ) → n < 10 ^ w → Printed (maybe w) (numeral w n)
 date-printed w n h =
     let t = numeral w n in

@@ -1,4 +1,7 @@
 -- Listing and composing are each other's way back: listings compose to legal documents and to nothing else, and files and listings come round.
+-- The printed lines are parted again and composed one by one (`header-composes`, `payments-compose`); the lines that were composed are those of
+-- a legal header and of payments that are good after none (`header-heard`, `payments-heard`), and joined they are the listing. Legal documents
+-- are just these, their conditions under other names. With files it comes round because an accepted file is its document written out.
 use Prim.Native.Nat.{ℕ, suc}
 use native.Mathlib.Omega.{arith}
 use mathlib.Core.Path.{_≡_, refl, sym, ap, _∙_, subst}
@@ -80,7 +83,7 @@ composed-listing l d e = by (split lineEnd l) (join-split lineEnd l) e
           sym (line-joined x (ascii "A") (headerFields a.0) (join lineEnd (y ∷ ys)) (paymentLines b.0) h.1 i.1) ∙ j,
         )
 
--- So exactly the listings of legal documents compose.
+-- Exactly the listings of legal documents compose, each to its document.
 pub composes-exactly : (l : List ℕ) (d : Document) → (compose l ≡ made d) ↔ (Legal d × (listing d ≡ l))
 composes-exactly l d = (composed-listing l d, λ x. ap compose (sym x.1) ∙ listing-composes d x.0)
 

@@ -50,13 +50,13 @@ lay-first n bs ps ts e = take-at bs (lay ps ts) n e
 
 -- ---- the fields come back
 
--- behind the first n of the bytes at s
+-- what stands in a record behind n bytes that stand at s
 further : (f : List ℕ) (p s n : ℕ) (front back rest : List ℕ) → length front ≡ n → drop (p + s) f ≡ (front ++ back) ++ rest
     → drop (p + (s + n)) f ≡ back ++ rest
 further f p s n front back rest l e =
     rw (← add-assoc p s n, ← drop-drop n (p + s) f) (ap (drop n) (e ∙ append-assoc front back rest) ∙ drop-at front (back ++ rest) n l)
 
--- from place s of the record on
+-- the pieces from place s of a record on are cut into the fields that they were laid out from
 cut-from : (f : List ℕ) (p s : ℕ) (ps : List Piece) (ts : List (List ℕ)) (rest : List ℕ) → T (formed (cells s ps) ts)
     → drop (p + s) f ≡ lay ps ts ++ rest → cut f p (cells s ps) ≡ ts
 cut-from f p s [] [] rest h e = refl

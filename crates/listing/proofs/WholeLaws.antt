@@ -19,7 +19,7 @@ use Rattle.listing.proofs.RecordLaws.{span}
 
 -- ---- A
 
--- a line for each field
+-- the fields of A, one after another
 pub header-ends : EndsBy header 0 (span recordA)
 header-ends =
     λ v.
@@ -68,7 +68,7 @@ parts-end (suc left) i room q e h =
     ends-bind (parts left (suc i) (roomAfter m room)) (λ ps. ret (record { mark = m; words = t } ∷ ps)) (p + 2 + 27) e e (omega arith) (omega arith)
     (parts-end left (suc i) (roomAfter m room) (p + 2 + 27) e (omega arith)) (λ ps r l. tt))
 
--- behind C1, a line for each field, and then the parts
+-- the fields of C behind C1, one after another, and then the parts
 pub payment-ends : (kind : List ℕ) (t : Totals) (k : ℕ) → EndsBy (payment kind t (lengthOf k)) 4 (4 + span (drop 1 (recordC k)))
 payment-ends kind t k =
     λ v.

@@ -35,7 +35,7 @@ abbrev pub heard : {A : Type 0} → List Piece → List (List ℕ) → ℕ → R
 heard ps ts p (done a q) = made a
 heard ps ts p (halt r) = denied (refusing (numberOf (r .reason)) (p + inLine (cells 0 ps) ts 2 (r .place)))
 
--- its form: the letter, the number of fields and each of them; then the record that it stands for
+-- a line: its form, which is the letter, the number of fields and each of them; then the record that the line stands for
 abbrev pub composeLine : {A : Type 0} → Form Name A → List ℕ → List Piece → ℕ → List (List ℕ) → Composed A
 composeLine m letter ps p [] = denied (refusing 17 p)
 composeLine m letter ps p (t ∷ ts) = provided (same letter t && formed (cells 0 ps) ts) (refusing 17 p) (heard ps ts p (readAt m (lay ps ts) 0))

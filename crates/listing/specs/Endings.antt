@@ -27,7 +27,7 @@ unfoldable pub composed : Composed Document → Ending
 composed (made d) = writes (write d)
 composed (denied v) = refuses v
 
--- 16 at 0 where the output has not so much room
+-- an ending with more bytes than the output has room for is 16 at 0
 unfoldable pub within : ℕ → Ending → Ending
 within room (writes bs) = cond (leb (length bs) room) (writes bs) (refuses (refusing 16 0))
 within room (refuses v) = refuses v

@@ -21,7 +21,7 @@ behindTabs (t ∷ ts) = (tab ∷ t) ++ behindTabs ts
 abbrev pub line : List ℕ → List (List ℕ) → List ℕ
 line letter fields = inTurn (letter ∷ behindTabs fields ∷ (lineEnd ∷ []) ∷ [])
 
--- ---- and the other way round
+-- ---- the pieces of a row of bytes
 
 abbrev pub onto : ℕ → List (List ℕ) → List (List ℕ)
 onto b [] = (b ∷ []) ∷ []
@@ -38,7 +38,7 @@ abbrev pub empty : List ℕ → Bool
 empty [] = true
 empty (b ∷ bs) = false
 
--- without them
+-- a row of bytes without its trailing blanks
 unfoldable pub trim : List ℕ → List ℕ
 trim [] = []
 trim (b ∷ bs) = let r = trim bs in cond (eqb b 0x20 && empty r) [] (b ∷ r)

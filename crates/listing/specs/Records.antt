@@ -43,7 +43,7 @@ abbrev pub recordParts : ℕ → ℕ → List Piece
 recordParts i zero = own (blanks (toSectionEnd i)) ∷ []
 recordParts i (suc left) = own (blanks (toNextPart i)) ∷ told (digits 2) ∷ told text27 ∷ recordParts (suc i) left
 
--- with k parts
+-- C with k parts
 abbrev pub recordC : ℕ → List Piece
 recordC k =
     own (numeral 4 (lengthOf k))  -- C1
@@ -71,19 +71,19 @@ recordC k =
 
 -- ---- how many fields lines have behind their letter
 
--- the line of A
+-- the fields of the line of A
 abbrev pub fieldsOfHeaderLine : ℕ
 fieldsOfHeaderLine = 8
 
--- of full width in the line of a payment: its numbers
+-- the numbers in the line of a payment, which have their full width
 abbrev pub numbersOfPaymentLine : ℕ
 numbersOfPaymentLine = 9
 
--- in the line of every payment
+-- the fields that the line of every payment has
 abbrev pub fieldsOfPaymentLine : ℕ
 fieldsOfPaymentLine = 12
 
--- in the line of a payment with k parts: mark and text of each
+-- the fields of a payment with k parts: two more for each part, its mark and its text
 abbrev pub fieldsWith : ℕ → ℕ
 fieldsWith k = fieldsOfPaymentLine + 2 * k
 
@@ -93,11 +93,11 @@ partsOf fields = min mostParts ((fields - suc fieldsOfPaymentLine) / 2)
 
 -- ---- the record that a line stands for
 
--- w bytes: the field, and blanks behind it
+-- a field made w bytes wide: filled up with blanks, or cut off
 abbrev pub pad : ℕ → List ℕ → List ℕ
 pad w t = take w (t ++ blanks w)
 
--- each field made as wide as it stands in the record
+-- the record of a line: each field as wide as it stands there, and what the record has of its own
 abbrev pub lay : List Piece → List (List ℕ) → List ℕ
 lay [] ts = []
 lay (own bs ∷ ps) ts = bs ++ lay ps ts
@@ -131,7 +131,7 @@ cut f p (c ∷ cs) = trim (take (width (c .kind)) (drop (p + c .place) f)) ∷ c
 
 -- ---- the form of a line
 
--- texts may be shorter than in the record, A11b may be empty, all else has full width
+-- the widths of a field in a line: texts may be shorter than in the record, A11b may be empty, all else has full width
 abbrev pub wide : Kind → ℕ → Bool
 wide (fixed bs) n = eqb n (length bs)
 wide (digits w) n = eqb n w
@@ -142,7 +142,7 @@ wide (choice w words) n = eqb n w
 abbrev pub fieldFormed : Kind → List ℕ → Bool
 fieldFormed κ t = wide κ (length t) && not (endsInBlank t)
 
--- the number of fields, and each of them
+-- fields have the form of a line: their number, and each of them
 abbrev pub formed : List Cell → List (List ℕ) → Bool
 formed [] [] = true
 formed [] (t ∷ ts) = false

@@ -39,7 +39,7 @@ abbrev pub Filled : List Payment → List ℕ → List ℕ → List ℕ → List
 Filled ps c4 c5 c12 start c4′ c5′ c12′ start′ =
     (c4′ ≡ filled (bankCodes ps) c4) × ((c5′ ≡ filled (accounts ps) c5) × ((c12′ ≡ filled (cents ps) c12) × (start′ ≡ filled (starts ps) start)))
 
--- it is as long as it was; the rows still to come, written from i on, make of it what all rows make of the old column
+-- a column with i rows written: as long as it was; the rows still to come, written from i on, make of it what all rows make of the old column
 pub record Column (old col : List ℕ) (i : ℕ) (left all : List ℕ) : Type 0 where
   pub long : length col ≡ length old
   pub comes : sets col i left ≡ sets old 0 all

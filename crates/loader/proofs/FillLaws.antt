@@ -27,7 +27,7 @@ pub record Rows (all : List Payment) (c4₀ c5₀ c12₀ start₀ c4 c5 c12 star
   pub centsLeft : Column c12₀ c12 i (cents left) (cents all)
   pub startsLeft : Column start₀ start i (startsFrom p left) (starts all)
 
--- i rows are written, the payment of the next stands at p
+-- i rows are written, and the payment of the next row stands at p
 abbrev pub Filling : (f c4₀ c5₀ c12₀ start₀ c4 c5 c12 start : List ℕ) (i p : ℕ) → Type 0
 Filling f c4₀ c5₀ c12₀ start₀ c4 c5 c12 start i p = Passing f (Rows (paymentsOf (answer f)) c4₀ c5₀ c12₀ start₀ c4 c5 c12 start) i p
 
@@ -46,7 +46,7 @@ module _ {f c4₀ c5₀ c12₀ start₀ c4 c5 c12 start : List ℕ} {i p : ℕ} 
   abbrev all : List Payment
   all = paymentsOf (answer f)
 
-  -- the numbers of the next payment, each into its column, and on by the bytes that the number of its parts tells
+  -- one turn: the numbers of the next payment go each into its column, and the place goes on by the bytes that the number of its parts tells
   pub fill-more : i < length all → {bank account amount k step : ℕ}
       → bank ≡ number (take width.C4 (drop (p + place.C4) f)) → account ≡ number (take width.C5 (drop (p + place.C5) f))
       → amount ≡ number (take width.C12 (drop (p + place.C12) f)) → k ≡ partsAt f p → step ≡ 128 * section (min k mostParts)
@@ -59,7 +59,7 @@ module _ {f c4₀ c5₀ c12₀ start₀ c4 c5 c12 start : List ℕ} {i p : ℕ} 
         startsLeft = column-more (kept .startsLeft) refl;
       })
 
-  -- behind the last row
+  -- behind the last row the four columns are filled
   pub fill-ends : length all ≤ i → Roomy (length all) c4₀ c5₀ c12₀ start₀ → Filled all c4₀ c5₀ c12₀ start₀ c4 c5 c12 start
   fill-ends h l =
       let none = none-left w h in

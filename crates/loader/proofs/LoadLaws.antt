@@ -45,7 +45,7 @@ module _ (file c4 c5 c12 start : List ℕ) where
   abbrev columns : List (List ℕ)
   columns = c4 ∷ c5 ∷ c12 ∷ start ∷ []
 
-  -- no rows leave the columns as they were
+  -- where no row is written, the columns are as they were
   unchanged : (r : Checked) → r ≡ checkedOf (loading columns (answer file)) → rows r file ≡ [] → Says file c4 c5 c12 start r c4 c5 c12 start
   unchanged r e n = (e, subst (λ ps. Filled ps c4 c5 c12 start c4 c5 c12 start) (sym n) (refl, (refl, (refl, refl))))
 
@@ -60,7 +60,7 @@ module _ (file c4 c5 c12 start : List ℕ) where
         by (refused z) i = refl
 
     module _ (zero : c .verdict .number ≡ 0) where
-      -- with room for so many rows or not
+      -- an accepted file is answered by its figures where the columns have room for the count, else by 16
       loaded-if : loading columns (answer file) ≡ ifRoom (haveRoom (c .count) columns) (outcome (answer file))
       unfolding paymentsOf loading
       loaded-if = let e = accepted-as file told zero .1 in rw (count-is file told zero, e)

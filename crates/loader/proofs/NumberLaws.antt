@@ -36,7 +36,7 @@ module _ (s : List ℕ) (p w : ℕ) (inside : p + w ≤ length s) (digits : T (e
         let d = and-both (leb 0x30 b) (leb b 0x39) (each digit field i digits (rw long h)) in
         rw byte (leb→le 0x30 b d.0, leb→le b 0x39 d.1)
 
-    -- one digit more
+    -- one digit more is read
     pub number-more : {v : ℕ} → Spelt field i v → Spelt field (i + 1) (v * 10 + (getD s (p + i) 0 - 0x30))
     number-more {v} k =
         let b = getD s (p + i) 0 in
@@ -45,6 +45,6 @@ module _ (s : List ℕ) (p w : ℕ) (inside : p + w ≤ length s) (digits : T (e
         let same : (b - 0x30 + 0x30) % 256 ≡ b = omega arith in
         spelt-more field i v (b - 0x30) k (rw long h) small (same ∙ byte) (omega arith)
 
-  -- all of them
+  -- where all w digits are read, the number of the field has come out
   pub number-whole : {i v : ℕ} → Spelt field i v → w ≤ i → v ≡ number field
   number-whole {i} k h = k .value ∙ ap number (take-all i field (rw long h))

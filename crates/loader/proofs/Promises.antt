@@ -1,5 +1,9 @@
 -- What the statement of `load` comes to: it admits one answer; a refused call leaves the columns as they were; after any other, row i of each
 -- column is that field of payment i, and count and totals are those of the payments.
+-- Everything is read off the equations of `Says`. Which figures are given goes by the cases of the form's answer, refused or accepted, and of
+-- the room; which rows are written hangs on the result's number alone (`rows`). The longest step is `columns-are`: row i of a filled column is
+-- found by induction over the payments (`row-of`, `start-of`), the start is where A and the payments before payment i end, and `stands-at` cuts
+-- the file there.
 use Prim.Native.Nat.{ℕ, _+_}
 use native.Mathlib.Omega.{arith}
 use mathlib.Core.Path.{_≡_, refl, sym, ap, subst, _∙_}
@@ -75,7 +79,7 @@ module _ (file c4 c5 c12 start : List ℕ) where
         by (accepted d) e = absurd (n (accepted-exactly file .0 (d, e)))
         by (refused z) e = refl
 
-    -- with the number and the place of the field that is wrong
+    -- a file that is not acceptable gets the number and the place of the field that is wrong
     pub refused-file : ¬ Acceptable file → RefusedFile file (r .verdict)
     refused-file n = subst (RefusedFile file) (sym (ap (λ (x : Checked). x .verdict) (refused-as-checked n))) (else-refused file n)
 
@@ -95,7 +99,7 @@ module _ (file c4 c5 c12 start : List ℕ) where
       pub no-room-as : haveRoom (length (d .payments)) columns ≡ false → r ≡ checkedOf noRoom
       no-room-as e = answered ∙ ap (λ b. checkedOf (ifRoom b (outcome (accepted d)))) e
 
-      -- else with 0 at 0, count and totals of the payments
+      -- an acceptable file that every column has room for is answered 0 at 0, with count and totals of the payments
       pub figures-are : haveRoom (length (d .payments)) columns ≡ true → r ≡ checkedOf (record { verdict = accepting; totals = totals (d .payments) })
       unfolding outcome
       figures-are e = answered ∙ ap (λ b. checkedOf (ifRoom b (outcome (accepted d)))) e
@@ -124,7 +128,7 @@ module _ (file c4 c5 c12 start : List ℕ) where
         subst (λ ps. Filled ps c4 c5 c12 start c4′ c5′ c12′ start′) none (says .1)
 
     module _ (zero : r .verdict .number ≡ 0) (x : Acceptable file) where
-      -- the rows that are written
+      -- with 0 the rows written are those of all payments
       loaded : rows r file ≡ x .0 .payments
       unfolding paymentsOf
       loaded = rw (eq-eqb (r .verdict .number) 0 zero, accepted-reading file x)

@@ -31,7 +31,7 @@ module _ (p : Payment) where
   row-of g (x ∷ xs) zero rest e = ap g (is-some e)
   row-of g (x ∷ xs) (suc i) rest e = row-of g xs i rest e
 
-  -- it begins behind the payments before it
+  -- payment i begins behind the payments before it
   pub start-there : (q : ℕ) (ps : List Payment) (i : ℕ) → getElem? ps i ≡ some p → getElem? (startsFrom q ps) i ≡ some (q + length (writePayments (take i ps)))
   start-there q [] i e = absurd (not-some e)
   start-there q (x ∷ xs) zero e = ap (λ (n : ℕ). some n) (sym (add-zero q))
@@ -44,7 +44,7 @@ module _ (p : Payment) where
       → getD (startsFrom q ps ++ rest) i 0 ≡ q + length (writePayments (take i ps))
   start-of q ps i rest e = in-front (startsFrom q ps) rest i (start-there q ps i e)
 
-  -- the payments before it, it, and the payments behind it
+  -- the payments before payment i, payment i, and the payments behind it
   pub around : (ps : List Payment) (i : ℕ) → getElem? ps i ≡ some p
       → writePayments ps ≡ writePayments (take i ps) ++ (writePayment p ++ writePayments (drop (suc i) ps))
   around [] i e = absurd (not-some e)

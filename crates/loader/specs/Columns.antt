@@ -23,6 +23,6 @@ abbrev pub startsFrom : ℕ → List Payment → List ℕ
 startsFrom p [] = []
 startsFrom p (x ∷ xs) = p ∷ startsFrom (p + length (writePayment x)) xs
 
--- in a file
+-- where the payments of a file begin: the first behind A
 abbrev pub starts : List Payment → List ℕ
 starts ps = startsFrom firstPayment ps

@@ -78,7 +78,7 @@ pub rows-written : let ps = rows (checkedOf accepted) file in
 unfolding paymentsOf given
 rows-written = refl
 
--- one row is too few in the last of them, and then nothing is written
+-- two payments, and one row in the last column: no room, and then nothing is written
 pub no-room : loading (old ∷ old ∷ old ∷ (1 ∷ []) ∷ []) (answer file) ≡ noRoom
 unfolding loading given
 no-room = refl

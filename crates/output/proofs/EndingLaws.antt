@@ -1,4 +1,8 @@
 -- A call that writes: what its statement comes to, for every way in which it would end with room enough.
+-- The statement, `Says`, is two equations with one ending, `within` the room that there is: the result and the output are read off from that. So
+-- a call meets it, and whoever has it learns from it, by the three ways in which this ending comes about: refused, too short, or with room
+-- (`stays-refused`, `too-short`, `roomy`). What lies behind the length is untouched in all of them, since the length is that of the bytes
+-- written, and a refused call writes none (`length-is`, `tail-is`).
 use Prim.Native.Nat.{ℕ, _≤_, _<_}
 use native.Mathlib.Omega.{arith}
 use mathlib.Core.Path.{_≡_, refl, sym, ap, subst, _∙_}
@@ -52,7 +56,7 @@ module _ (e : Ending) (old : List ℕ) where
     pub ends-written : length bs ≤ length old → {r : Written} → r ≡ writtenOf (writes bs) → {new : List ℕ} → new ≡ filled bs old → Says e old r new
     ends-written h g n = as-it-ends (writes bs) (roomy (length old) i h) g n
 
--- ---- what it comes to
+-- ---- what the statement comes to
 
 -- n bytes at the start of an output were written
 module _ (bs old : List ℕ) {n : ℕ} {new : List ℕ} (l : n ≡ length bs) (f : new ≡ filled bs old) where
@@ -81,7 +85,7 @@ sixteen : _≡_ {A = ℕ} 0 16 → ⊥
 sixteen e = omega arith
 
 module _ (e : Ending) (old : List ℕ) where
-  -- it admits one answer
+  -- the statement admits one answer
   pub one-answer : (r s : Written) (a b : List ℕ) → Says e old r a → Says e old s b → (r ≡ s) × (a ≡ b)
   one-answer r s a b d f = (d .0 ∙ sym (f .0), d .1 ∙ sym (f .1))
 
@@ -110,7 +114,7 @@ module _ (e : Ending) (old : List ℕ) where
         by (writes bs) = refl
         by (refuses v) = refl
 
-    -- and the output past it is as it was
+    -- the output past the length given is as it was
     pub tail-is : drop (r .length) new ≡ drop (r .length) old
     tail-is = filled-behind (written end) old length-is (says .1)
 
@@ -130,7 +134,7 @@ module _ (e : Ending) (old : List ℕ) where
           by true j = leb-true (length bs) (length old) j
           by false j = absurd (sixteen (sym z ∙ ap (λ (w : Written). w .verdict .number) (no-room-as (leb-false (length bs) (length old) j))))
 
-      -- else 0 at 0 with the length, and the output begins with the bytes
+      -- with room, 0 at 0 is given with the length, and the output begins with the bytes
       pub written-as : length bs ≤ length old → (r ≡ record { verdict = accepting; length = length bs }) × (take (r .length) new ≡ bs)
       written-as h = (
         says .0 ∙ ap writtenOf (roomy (length old) i h),

@@ -23,7 +23,7 @@ module _ (p : ℕ) (bs old : List ℕ) where
   unfolding overIfRoom
   over-room h = rw (le-leb (p + length bs) (length old) h)
 
-  -- it is what setting byte after byte gives
+  -- bytes written over others are what setting byte after byte gives
   by-sets : p + length bs ≤ length old → sets old p bs ≡ over p bs old
   by-sets h = sets-eq bs old p h ∙ append-assoc (take p old) bs (drop (p + length bs) old)
 
@@ -38,7 +38,7 @@ over-nothing p old = let e : p + 0 ≡ p = omega arith in rw e (take-append-drop
 pub over-first : (bs old : List ℕ) → over 0 bs old ≡ bs ++ drop (length bs) old
 over-first bs old = rw zero-add
 
--- all of it
+-- as many bytes as the output has take the place of all of it
 pub over-all : (bs old : List ℕ) → length bs ≡ length old → over 0 bs old ≡ bs
 over-all bs old e = let h : length old ≤ length bs = omega arith in over-first bs old ∙ rw (drop-of-length-le old h) (append-nil bs)
 
@@ -79,13 +79,14 @@ over-again p a b old h g =
     ∙ ap (λ (n : ℕ). drop n old) f in
     ap₂ (λ (x y : List ℕ). x ++ (b ++ y)) (take-at (take p old) (a ++ drop (p + length a) old) p first) behind
 
--- a byte right behind what was written, and one right before it
+-- a byte set right behind what was written
 pub over-more : (p b : ℕ) (bs old : List ℕ) → p + suc (length bs) ≤ length old
     → set (over p bs old) (p + length bs) b ≡ over p (bs ++ (b ∷ [])) old
 over-more p b bs old h =
     let i = over-length p bs old (omega arith) in
     by-sets (p + length bs) (b ∷ []) (over p bs old) (omega arith) ∙ over-next p bs (b ∷ []) old (omega arith)
 
+-- a byte set right before what was written
 pub over-before : (q b : ℕ) (bs old : List ℕ) → q + suc (length bs) ≤ length old → set (over (suc q) bs old) q b ≡ over q (b ∷ bs) old
 over-before q b bs old h =
     let e : q + suc (length bs) ≡ suc q + length bs = omega arith in

@@ -8,15 +8,15 @@ use Rattle.verdict.specs.Verdicts.{accepting}
 use Rattle.listing.specs.Endings.{Ending, writes, refuses}
 use Rattle.output.specs.declared.Written.{Written}
 
--- these bytes from place p on, and around them what was there
+-- an output with bytes written from place p on, and around them what was there
 abbrev pub over : ℕ → List ℕ → List ℕ → List ℕ
 over p bytes old = take p old ++ (bytes ++ drop (p + length bytes) old)
 
--- nothing is written where there is not room for all of it
+-- an output with bytes written from place p on; nothing is written where there is not room for all of them
 unfoldable pub overIfRoom : ℕ → List ℕ → List ℕ → List ℕ
 overIfRoom p bytes old = cond (leb (p + length bytes) (length old)) (over p bytes old) old
 
--- a refused call has written nothing
+-- what a call that ends so gives back; a refused call has written nothing
 abbrev pub writtenOf : Ending → Written
 writtenOf (writes bytes) = record { verdict = accepting; length = length bytes }
 writtenOf (refuses v) = record { verdict = v; length = 0 }

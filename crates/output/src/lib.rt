@@ -91,7 +91,7 @@ pub fn put_number(out: &mut [u8], p: usize, v: u64, w: usize)
     }
 }
 
-// Nothing but blanks.
+// The whole output made blank.
 pub fn blank(out: &mut [u8])
     ensures { λ _. ⌜ now (out .exit) ≡ blanks (length (now (out .entry))) ⌝ }
 {

@@ -1,4 +1,9 @@
 -- A part read as a file of its own, the blanks that close a section, and the tree of the parts opened one part at a time.
+-- A field inside the 29 bytes that are handed on is the same field of the file, also where the file ends in the part: both are whole together,
+-- and have the same bytes (`part-look`). The blanks are 11 behind part 2, 12 behind parts 6, 10 and 14, none behind another with a part to come,
+-- and always some behind the last (`eleven`, `twelve`, `none-between`, `some-behind`). The loop's walk over the parts that are left is opened
+-- once: with none left it ends with the closing blanks, else it goes past blanks to one part and the others (`parts-over`, `part-next`,
+-- `part-barred`).
 use Prim.Native.Nat.{ℕ, zero, suc, _+_, _-_, _*_, _%_, _≤_, _<_}
 use native.Mathlib.Nat.{add-zero}
 use native.Mathlib.Omega.{arith}
@@ -75,7 +80,7 @@ module _ (n : ℕ) (f : List ℕ) (p : ℕ) where
   closing-some zero e = absurd (e refl)
   closing-some (suc w) e = rw (length-replicate {A = ℕ} (suc w) 0x20) at (last {t = passings} {f = f} passings (λ v q. refl) (λ x. refl) (start (closingBlanks n (suc w)) p))
 
--- how many they are
+-- how many blanks stand between part i and a next one, and behind it where it is the last
 module _ (i : ℕ) where
   pub eleven : i ≡ 2 → toNextPart i ≡ 11
   unfolding toNextPart toSectionEnd

@@ -25,9 +25,10 @@ const PART: u64 = width::PART as u64;
 
 const SECTION: u64 = length::SECTION as u64;
 
-// The blanks behind the last part that a section takes: two in the second, four in the third to fifth.
+// The blanks behind the two parts that the second section takes.
 const BEHIND_TWO: usize = length::SHORTEST_C - at::PARTS - 2 * width::PART;
 
+// The blanks behind the four parts that the third to the fifth section take each.
 const BEHIND_FOUR: usize = length::SECTION - 4 * width::PART;
 
 // How many parts may still follow a part of this mark, where room parts could follow the one before it.

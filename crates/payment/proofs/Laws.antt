@@ -40,7 +40,7 @@ payment-is t x told {s} {q} given =
     let i : r .place ≡ q = cc in
     (r .value, r .done ∙ ap (λ p. done (r .value) p) i, cc)
 
--- the answer, sum by sum
+-- two answers whose three sums are the same
 pub sums-are : {s s₂ : AccountSum} {t t₂ : BankCodeSum} {u u₂ : CentSum} {q : ℕ} → s ≡ s₂ → t ≡ t₂ → u ≡ u₂
     → payments.Is (record { accounts = s; banks = t; cents = u }) q ≡ payments.Is (record { accounts = s₂; banks = t₂; cents = u₂ }) q
 sums-are d e f = rw (d, e, f)

@@ -88,10 +88,10 @@ pub fn payment_at(s: &[u8], p: usize, kind: FileKind, sums: Sums, l: u64) -> Pay
         return PaymentRead::Refused(amount.why());
     };
     let names = payment_fields::names_at(s, p13);
-    let Passed::To(p17) = names else {
+    let Passed::To(p17a) = names else {
         return PaymentRead::Refused(names.why());
     };
-    let count = payment_fields::part_count_at(s, p17, l);
+    let count = payment_fields::part_count_at(s, p17a, l);
     let Number::Is(k, first) = count else {
         return PaymentRead::Refused(count.why());
     };

@@ -42,7 +42,7 @@ receiver kind accounts bankCodes = do
     supplement = supplement;
   })
 
--- the code keeps the two sums
+-- of C2 to C7b the code keeps the two sums, of account numbers and of bank codes
 abbrev pub receiversOn : ℕ → ℕ → Telling Receiver ReceiverRead
 receiversOn accounts bankCodes =
     record {
@@ -70,6 +70,7 @@ amount sum = do
   cents ← get C12 (digits 11) (rulesC12 sum)
   ret (record { senderBank = senderBank; senderAccount = senderAccount; cents = cents })
 
+-- of C8 to C12 the code keeps the sum of cents
 abbrev pub amountsOn : ℕ → Telling Amount CentsRead
 amountsOn sum = record { gives = λ a q. cents.Is (record { 0 = sum + a .cents }) q; refuses = cents.Refused }
 

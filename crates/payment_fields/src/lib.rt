@@ -23,17 +23,19 @@ use sums::BankCodesAdded;
 use sums::CentSum;
 use sums::CentsAdded;
 
-// A total with one number more, and the place behind that number.
+// The sum of account numbers with one more, and the place behind C5.
 enum AccountsRead {
     Refused(Refusal),
     Is(AccountSum, usize),
 }
 
+// The sum of bank codes with one more, and the place behind C4.
 enum BankCodesRead {
     Refused(Refusal),
     Is(BankCodeSum, usize),
 }
 
+// The sum of cents with one amount more, and the place behind C12.
 pub enum CentsRead {
     Refused(Refusal),
     Is(CentSum, usize),
@@ -307,10 +309,10 @@ pub fn names_at(s: &[u8], p: usize) -> Passed
     ensures { λ r. ⌜ r ≡ ofRead passings (readAt names (now (s .entry)) p) ⌝ }
 {
     let c13 = fields::blanks_at(s, p, width::C13);
-    let Passed::To(p14) = c13 else {
+    let Passed::To(p14a) = c13 else {
         return c13;
     };
-    let c14a = fields::name_at(s, p14);
+    let c14a = fields::name_at(s, p14a);
     let Passed::To(p14b) = c14a else {
         return c14a;
     };

@@ -36,22 +36,22 @@ few-or-more v = by (ltb v 10) refl
     by true e = inl (ltb-true v 10 e)
     by false e = inr (ltb-false v 10 e)
 
--- ---- how many
+-- ---- how many digits
 
--- whatever the number
+-- no more than n digits are counted, whatever the number
 pub no-more : (n v : ℕ) → digitsWithin n v ≤ n
 no-more zero v = omega (arith, no-digit v)
 no-more (suc n) v =
     ⊎-elim (λ h. omega (arith, one-digit n v h)) (λ h. omega (arith, another-digit n v h, no-more n (v / 10))) (few-or-more v)
 
--- where n suffice, so do these
+-- where n digits suffice for a number, those counted suffice
 digits-suffice : (n v : ℕ) → v < 10 ^ n → v < 10 ^ digitsWithin n v
 digits-suffice zero v h = rw (no-digit v) h
 digits-suffice (suc n) v h =
     ⊎-elim (λ l. rw (one-digit n v l) l)
     (λ l. rw (another-digit n v l) (tenth (digitsWithin n (v / 10)) v .0 (digits-suffice n (v / 10) (tenth n v .1 h)))) (few-or-more v)
 
--- nor are they more than it has: where there are two, the first is no 0
+-- no digit too many is counted: where there are two or more, the first is no 0
 pub no-zero-ahead : (n v k : ℕ) → digitsWithin n v ≡ suc (suc k) → 10 ^ suc k ≤ v
 no-zero-ahead zero v k e = absurd (omega (arith, e, no-digit v))
 no-zero-ahead (suc n) v zero e = ⊎-elim (λ l. absurd (omega (arith, e, one-digit n v l))) (λ l. l) (few-or-more v)
@@ -64,7 +64,7 @@ no-zero-ahead (suc n) v (suc k) e =
 pub decimal-digits : (v : ℕ) → v < 10 ^ 20 → numeral (digitsWithin 20 v) (v % 10 ^ digitsWithin 20 v) ≡ decimal v
 decimal-digits v h = ap (numeral (digitsWithin 20 v)) (mod-eq-of-lt (digits-suffice 20 v h))
 
--- read as a number again it is v
+-- the numeral of v, read as a number again, is v
 pub decimal-reads : (v : ℕ) → v < 10 ^ 20 → number (decimal v) ≡ v
 decimal-reads v h = number-numeral (digitsWithin 20 v) v (digits-suffice 20 v h)
 

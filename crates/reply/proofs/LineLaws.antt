@@ -1,4 +1,8 @@
 -- The line of a refusal: how long it is, and that it stands in the output once its pieces were written one behind the other.
+-- The pieces are a numeral, a tab, a numeral and the line's end. Behind each of them the output begins with the pieces so far (`first-piece`,
+-- `both-pieces`, `all-pieces`), since each is written right behind the one before it. The code writes so many digits of each number as it has
+-- counted; these hold the number, so what is written is its decimal (`the-number`, `the-place`, by `decimal-digits`). The room is tested once,
+-- for the whole line, so the line is written whole or not at all.
 use Prim.Native.Nat.{ℕ, _+_, _-_, _%_, _^_, _≤_, _<_}
 use native.Mathlib.Omega.{arith}
 use mathlib.Core.Path.{_≡_, sym, ap, ap₂, _∙_}
@@ -14,7 +18,7 @@ use Rattle.output.proofs.OverLaws.{over-room, over-length, over-first, over-nex
 use Rattle.reply.specs.Reply.{digitsWithin, decimal, refusalLine, fitting}
 use Rattle.reply.proofs.DecimalLaws.{no-more, decimal-digits}
 
--- ---- all of it, or nothing
+-- ---- all bytes, or none
 
 module _ (room : ℕ) (bs : List ℕ) where
   pub fits : length bs ≤ room → fitting room bs ≡ bs
@@ -75,7 +79,7 @@ pub line-length : (n p : ℕ) → length (refusalLine n p) ≡ digitsWithin 20 n
 line-length n p =
     pieces-length (decimal n) (decimal p) ∙ ap₂ (λ a b. a + b + 2) (numeral-length (digitsWithin 20 n) n) (numeral-length (digitsWithin 20 p) p)
 
--- 20 digits, a tab, 20 digits, the line's end; whatever the numbers
+-- a line has at most 42 bytes: 20 digits, a tab, 20 digits, the line's end; whatever the numbers
 pub line-short : (n p : ℕ) → length (refusalLine n p) ≤ 42
 line-short n p = omega (arith, line-length n p, no-more 20 n, no-more 20 p)
 
@@ -86,7 +90,7 @@ module _ (n p : ℕ) (old : List ℕ) where
       let e = sym (fits-not (length old) (refusalLine n p) (omega arith)) in
       (ap length e, ap (λ bs. filled bs old) e)
 
-  -- its two numbers have a and b digits, and are written with the tab between them
+  -- number and place have a and b digits, and are written with the tab between them
   module _ (n< : n < 10 ^ 20) (p< : p < 10 ^ 20) {a b : ℕ} (first : a ≡ digitsWithin 20 n) (second : b ≡ digitsWithin 20 p)
       (h : a + b + 2 ≤ length old) {o₁ o₂ : List ℕ} (one : o₁ ≡ overIfRoom 0 (numeral a (n % 10 ^ a)) old)
       (two : o₂ ≡ overIfRoom (a + 1) (numeral b (p % 10 ^ b)) (set o₁ a tab)) where
@@ -110,7 +114,7 @@ module _ (n p : ℕ) (old : List ℕ) where
     whole : a + b + 2 ≡ length (refusalLine n p)
     whole = omega (arith, line-length n p)
 
-    -- the line's end makes it whole
+    -- the line's end makes the line whole
     pub line-written : Says (fitting (length old) (refusalLine n p)) old (a + b + 2) (set o₂ (a + b + 2 - 1) lineEnd)
     line-written =
         let l = whole in

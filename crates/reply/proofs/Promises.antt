@@ -1,5 +1,9 @@
--- What the statements of `list` and `make` come to: each admits one answer, with which the output begins; what it says to which input; and in an
--- output of 32,768 bytes nothing of it is cut, and each acceptable file of as many bytes at most is listed and comes back.
+-- What the statements of `list` and `make` come to: each admits one answer, with which the output begins; what it says to which input; in an
+-- output of 42 bytes nothing of it is cut; and in one of 32,768 bytes each acceptable file of as many bytes at most is listed and comes back.
+-- A reply is printed from how the call beneath ends, so each law is what is proved of `lister::list` or `composer::compose` put into the
+-- definition of the reply: too long, refused, without room, written (`reply-too-long`, `reply-refused`, `reply-written`). No line of a refusal
+-- has more than 42 bytes (`line-short`), and what a call writes has room by its own test, so with 42 bytes nothing is cut (`whole-reply`). A
+-- listing is no longer than its file: with 32,768 bytes there is room for both, and the two replies together are the round trip (`comes-back`).
 use Prim.Native.Nat.{ℕ, _≤_, _<_}
 use native.Mathlib.Omega.{arith}
 use mathlib.Core.Path.{_≡_, refl, sym, ap, subst, _∙_}
@@ -40,7 +44,7 @@ module _ (bs old : List ℕ) where
     pub reply-is : take r new ≡ bs
     reply-is = filled-first bs old (says .0) (says .1)
 
-    -- so that much of the output can be lent to be printed
+    -- the reply lies in the output, so that it can be lent to be printed
     pub reply-inside : r ≤ length new
     reply-inside = omega (arith, says .0, ap length (says .1), length-append bs (drop (length bs) old))
 
@@ -60,7 +64,7 @@ list-one-answer file old = one-answer (listReply (length old) file) old
 pub make-one-answer : (l old : List ℕ) (r s : ℕ) (a b : List ℕ) → MakeSays l old r a → MakeSays l old s b → (r ≡ s) × (a ≡ b)
 make-one-answer l old = one-answer (makeReply (length old) l) old
 
--- ---- nothing of it is cut
+-- ---- nothing of the reply is cut
 
 module _ (room : ℕ) (h : 42 ≤ room) where
   line-whole : (n p : ℕ) → fitting room (refusalLine n p) ≡ refusalLine n p
@@ -86,7 +90,7 @@ module _ (room : ℕ) (h : 42 ≤ room) where
 -- ---- to which input which reply
 
 module _ (room : ℕ) where
-  -- one that is too long, whatever it holds
+  -- an input that is too long, whatever it holds
   pub too-long : (input : List ℕ) → 32768 < length input → 9 ≤ room
       → (listReply room input ≡ refusalLine 20 32768) × (makeReply room input ≡ refusalLine 20 32768)
   unfolding digitsWithin numeral
@@ -102,11 +106,11 @@ module _ (room : ℕ) where
     pub lists : (x : Acceptable file) → length (listing (x .0)) ≤ room → listReply room file ≡ listing (x .0)
     lists x = reply-written room file end l (listed-as file x)
 
-    -- one that there is none to list
+    -- an acceptable file that there is no room to list
     pub lists-not : 42 ≤ room → (x : Acceptable file) → room < length (listing (x .0)) → listReply room file ≡ refusalLine 16 0
     lists-not h x k = reply-refused room file end l (too-short room (listed-as file x) k) ∙ line-whole room h 16 0
 
-    -- any other
+    -- a file that is not acceptable
     pub refuses-file : 42 ≤ room → ¬ Acceptable file → let v = outcome (answer file) .verdict in listReply room file ≡ refusalLine (v .number) (v .place)
     refuses-file h n =
         let v = outcome (answer file) .verdict in
@@ -116,14 +120,14 @@ module _ (room : ℕ) where
   pub makes : (d : Document) → Legal d → length (listing d) ≤ 32768 → length (write d) ≤ room → makeReply room (listing d) ≡ write d
   makes d g l = reply-written room (listing d) (composed (compose (listing d))) l (made-ends (listing-composes d g))
 
-  -- one that there is none for
+  -- the listing of a legal document whose file there is no room for
   pub makes-not : 42 ≤ room → (d : Document) → Legal d → length (listing d) ≤ 32768 → room < length (write d)
       → makeReply room (listing d) ≡ refusalLine 16 0
   makes-not h d g l k =
       let e = composed (compose (listing d)) in
       reply-refused room (listing d) e l (too-short room (made-ends (listing-composes d g)) k) ∙ line-whole room h 16 0
 
-  -- any other
+  -- a listing that is refused
   pub refuses-listing : 42 ≤ room → (input : List ℕ) → length input ≤ 32768 → (v : Verdict) → compose input ≡ denied v
       → makeReply room input ≡ refusalLine (v .number) (v .place)
   refuses-listing h input l v i =

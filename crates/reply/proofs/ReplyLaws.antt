@@ -14,7 +14,7 @@ use Rattle.output.proofs.EndingLaws as call
 use Rattle.reply.specs.Reply.{refusalLine, printed, limited, fitting, reply}
 use Rattle.reply.proofs.LineLaws.{Says, fits}
 
--- ---- what it is
+-- ---- what the reply is
 
 module _ (room : ℕ) (input : List ℕ) (e : Ending) where
   pub reply-too-long : 32768 < length input → reply room input e ≡ fitting room (refusalLine 20 32768)
@@ -32,7 +32,7 @@ module _ (room : ℕ) (input : List ℕ) (e : Ending) where
     pub reply-written : {bs : List ℕ} → e ≡ writes bs → length bs ≤ room → reply room input e ≡ bs
     reply-written {bs} i l = as-it-ends (call.roomy room i l) ∙ fits room bs l
 
--- ---- how the code comes to it
+-- ---- how the code comes to the reply
 
 says-of : (old : List ℕ) {bs cs : List ℕ} → bs ≡ cs → {r : ℕ} {new : List ℕ} → Says cs old r new → Says bs old r new
 says-of old i {r} {new} s = subst (λ x. Says x old r new) (sym i) s

@@ -31,11 +31,11 @@ printed (refuses v) = refusalLine (v .number) (v .place)
 unfoldable pub limited : List ℕ → Ending → Ending
 limited input end = cond (leb (length input) 32768) end (refuses (refusing 20 32768))
 
--- where there is no room for all of it, nothing
+-- bytes that there is room for; where there is not room for all of them, nothing
 unfoldable pub fitting : ℕ → List ℕ → List ℕ
 fitting room bytes = cond (leb (length bytes) room) bytes []
 
--- the reply to an input, where the call would end so with room enough
+-- the reply to an input, where `end` is how the call would end with room enough
 abbrev pub reply : ℕ → List ℕ → Ending → List ℕ
 reply room input end = fitting room (printed (limited input (within room end)))
 
@@ -43,6 +43,6 @@ reply room input end = fitting room (printed (limited input (within room end)))
 abbrev pub listReply : ℕ → List ℕ → List ℕ
 listReply room file = reply room file (listed (answer file))
 
--- and what dtmake prints
+-- what dtmake prints for an input, with an output of so much room
 abbrev pub makeReply : ℕ → List ℕ → List ℕ
 makeReply room lines = reply room lines (composed (compose lines))

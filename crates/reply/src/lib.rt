@@ -7,7 +7,7 @@ ghost use Rattle.reply.specs.Reply.{digitsWithin, refusalLine, fitting, 
 // The programs take at most so many bytes.
 const LONGEST: usize = 32768;
 
-// The number of a longer input, which the programs alone give.
+// The number of an input that is too long, which the programs alone give.
 const TOO_LONG: u8 = 20;
 
 // How many digits v has in decimal.

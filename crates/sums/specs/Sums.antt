@@ -12,13 +12,15 @@ use Rattle.sums.specs.declared.CentsAdded.{CentsAdded}
 use Rattle.sums.specs.declared.CentsAdded.the-variants as cents
 use Rattle.sums.specs.declared.Sums.{Sums}
 
--- the number v, added to the total sum
+-- the account number v, added to the sum of those before
 unfoldable pub accountsAdded : ℕ → ℕ → AccountsAdded
 accountsAdded sum v = cond (ltb (sum + v) sumLimit) (accounts.Within (record { 0 = sum + v })) accounts.Over
 
+-- the bank code v, added to the sum of those before
 unfoldable pub bankCodesAdded : ℕ → ℕ → BankCodesAdded
 bankCodesAdded sum v = cond (ltb (sum + v) sumLimit) (bankCodes.Within (record { 0 = sum + v })) bankCodes.Over
 
+-- the cents v, added to the sum of those before
 unfoldable pub centsAdded : ℕ → ℕ → CentsAdded
 centsAdded sum v = cond (leb (sum + v) mostCents) (cents.Within (record { 0 = sum + v })) cents.Over
 

@@ -2,9 +2,10 @@
 ghost use mathlib.Core.Path.{_≡_};
 ghost use Rattle.sums.specs.Sums.{accountsAdded, bankCodesAdded, centsAdded};
 
-// 17 digits, and 13.
+// The highest sum of account numbers, or of bank codes: 17 digits.
 const MOST_OF_17: u64 = 99_999_999_999_999_999;
 
+// The highest sum of cents: 13 digits.
 pub const MOST_CENTS: u64 = 9_999_999_999_999;
 
 pub struct AccountSum(pub u64);
@@ -25,24 +26,26 @@ pub const NO_SUMS: Sums = Sums {
     cents: CentSum(0),
 };
 
-// The total with one number more, or it has too many digits.
+// The sum of account numbers with one more, or that it has too many digits.
 pub enum AccountsAdded {
     Over,
     Within(AccountSum),
 }
 
+// The sum of bank codes with one more, or that it has too many digits.
 pub enum BankCodesAdded {
     Over,
     Within(BankCodeSum),
 }
 
+// The sum of cents with one amount more, or that it has too many digits.
 pub enum CentsAdded {
     Over,
     Within(CentSum),
 }
 
 impl AccountSum {
-    // With the account number v.
+    // The sum with the account number v added.
     pub fn add(self, v: u64) -> AccountsAdded
         ensures { λ r. ⌜ r ≡ accountsAdded (self .0) v ⌝ }
     {
@@ -58,7 +61,7 @@ impl AccountSum {
 }
 
 impl BankCodeSum {
-    // With the bank code v.
+    // The sum with the bank code v added.
     pub fn add(self, v: u64) -> BankCodesAdded
         ensures { λ r. ⌜ r ≡ bankCodesAdded (self .0) v ⌝ }
     {
@@ -74,7 +77,7 @@ impl BankCodeSum {
 }
 
 impl CentSum {
-    // With the cents v.
+    // The sum with the cents v added.
     pub fn add(self, v: u64) -> CentsAdded
         ensures { λ r. ⌜ r ≡ centsAdded (self .0) v ⌝ }
     {

@@ -17,20 +17,22 @@ ofListing = 2 ∷ 3 ∷ 4 ∷ 6 ∷ 7 ∷ 8 ∷ 9 ∷ 10 ∷ 11 ∷ 12 ∷ 13 �
 abbrev pub ofCheck : List ℕ
 ofCheck = ofFile
 
--- a column, or the output, is too short
+-- besides the file's refusals: a column is too short
 abbrev pub ofLoad : List ℕ
 ofLoad = ofFile ++ (16 ∷ [])
 
+-- besides the file's refusals: the output is too short
 abbrev pub ofList : List ℕ
 ofList = ofFile ++ (16 ∷ [])
 
+-- besides the listing's refusals: the output is too short
 abbrev pub ofCompose : List ℕ
 ofCompose = ofListing ++ (16 ∷ [])
 
--- there is no such payment, or no such text of it: finding, locating and the view
+-- of finding, locating and the view, besides the file's refusals: there is no such payment, or it has no such text
 abbrev pub ofView : List ℕ
 ofView = ofFile ++ (19 ∷ [])
 
--- called from C: the result, which is lent too, is too short
+-- of a call from C, besides the numbers of the call beneath: the result, which is lent too, is too short
 abbrev pub fromC : List ℕ → List ℕ
 fromC numbers = 16 ∷ numbers

@@ -1,9 +1,14 @@
--- What `text_of` and `verdict_of` share, which make a view and hand a text out of it: a text of a view of the file is a text of the file itself, and the two calls.
+-- What `text_of` and `verdict_of` share, which make a view and hand a text out of it: a text of a view of the file is a text of the file itself,
+-- and the two calls.
+-- The view that was made holds the first bytes of the file, up to the end of its spot. So the spot that `hand` seeks in it is `textAt`, and the
+-- stretch handed out, which ends within those bytes (`locate-within`), is the same stretch of the file: the bytes by induction on where it
+-- begins (`cut-inside`), the memory because the one pointer is the other moved on. The rest is what a walk has to know of the types and of the
+-- calls.
 --     text-spot        the spot of the text in the view's bytes is `textAt`
 --     text-law, verdict-law          the text and the verdict, from what `make` and `hand` promise
---     params-vals, params-tell       the machine values of their parameters
---     made-typed, handed-typed       the answers of the two, held in a local
---     made-verdict, handed-verdict   the verdicts in them
+--     params-vals, params-tell       the machine values of the parameters of `text_of` and `verdict_of`
+--     made-typed, handed-typed       the answers of `make` and `hand`, held in a local
+--     made-verdict, handed-verdict   the verdicts in these answers
 --     to-make, make-asked            the call of `make`: what its contract binds, and that whoever has the file has what it asks
 --     to-hand, hand-asked            the call of `hand` on the view of an answer of `make`
 --     text-of          out of an answer of `hand`: what its text owns
@@ -86,7 +91,7 @@ verdict-law s n w m h e e′ =
     let p = text-spot s n w m e in
     λ j. firstOf (e .2 j) ((e′ .1 ∙ ap (λ (z : Spot). z .verdict) p) j)
 
--- ---- the parameters of the two: file, number of the payment, and which text; and their machine values
+-- ---- the parameters of `text_of` and `verdict_of`: file, number of the payment, and which text; and their machine values
 abbrev pub Params : Lft → List RattleType
 Params κ = ShrSlice (named 0) κ u8 ∷ usize ∷ E.the-row ∷ []
 

@@ -1,5 +1,9 @@
 -- What the statements of `make`, `hand`, `text_of` and `verdict_of` come to: a refusal gives no bytes, and which one it is; and of payment n of an
 -- acceptable file the view has the whole file and the payment's start, and hands out the payment's own texts.
+-- Each statement tells of a spot of `finder`, so each law is a law of that spot put into it: an empty one at 0 where it is refused
+-- (`find-refuses`, `locate-refuses`), and what `payment-is` says where there is a payment n. The step between is that an accepted view has all
+-- bytes of the file, so that what is sought in the view is sought in the file itself (`handed-as`, `sought-as`), and a view of no bytes is an
+-- empty file, 1 at 0 (`no-bytes`).
 use Prim.Native.Nat.{ℕ, _+_, _-_, _≤_}
 use native.Mathlib.Nat.{add-zero, sub-zero, add-sub-cancel-left}
 use native.Mathlib.Omega.{arith}
@@ -39,14 +43,14 @@ no-bytes : (start : ℕ) (w : Wanted) → locateAt [] start w ≡ nowhere (refus
 unfolding locateAt locating given
 no-bytes start w = refl
 
--- a view of no bytes, with start 0
+-- a refused making gives a view of no bytes, with start 0
 pub refused-view : (s : RefT (List ℕ)) (n : ℕ) (m : Made) → IsMade s (findAt (now s) n) m → m .verdict .number ≢ 0
     → (now (m .view .file) ≡ []) × (m .view .start ≡ 0)
 refused-view s n m promised nonzero =
     let e = subst (λ z. IsMade s z m) (find-refuses (now s) n (λ z. nonzero (ap (λ (v : Verdict). v .number) (promised .2) ∙ z))) promised in
     (e .0 .0, e .1)
 
--- which hands nothing out: 1 at 0, whatever the making's refusal was
+-- a refused view hands nothing out: 1 at 0, whatever the making's refusal was
 pub refused-view-hands : (s : RefT (List ℕ)) (n : ℕ) (m : Made) → IsMade s (findAt (now s) n) m → m .verdict .number ≢ 0
     → (w : Wanted) (h : Handed) → IsHanded (m .view .file) (locateAt (now (m .view .file)) (m .view .start) w) h
     → (h .verdict ≡ refusing 1 0) × (now (h .text) ≡ [])
@@ -55,13 +59,13 @@ refused-view-hands s n m promised nonzero w h handed =
     let e = subst (λ z. IsHanded (m .view .file) z h) (ap (λ f. locateAt f (m .view .start) w) empty ∙ no-bytes (m .view .start) w) handed in
     (e .1, e .0 .0)
 
--- an empty text, whatever the view
+-- a refused hand-out gives an empty text, whatever the view
 pub refused-text : (v : View) (w : Wanted) (h : Handed) → IsHanded (v .file) (locateAt (now (v .file)) (v .start) w) h → h .verdict .number ≢ 0 → now (h .text) ≡ []
 refused-text v w h promised nonzero =
     let r = locate-refuses (now (v .file)) (v .start) w (λ z. nonzero (ap (λ (v : Verdict). v .number) (promised .1) ∙ z)) in
     subst (λ z. IsHanded (v .file) z h) r promised .0 .0
 
--- the same without a view that is kept, whichever of the two is refused
+-- `text_of` gives an empty text, whichever of making and hand-out is refused
 pub no-text-of : (s : RefT (List ℕ)) (n : ℕ) (w : Wanted) (r : RefT (List ℕ)) → IsText s n w r → verdictFor (now s) n w .number ≢ 0 → now r ≡ []
 unfolding firstOf
 no-text-of s n w r promised nonzero = by (isAccepted (findAt (now s) n .verdict)) refl
@@ -77,9 +81,9 @@ no-text-of s n w r promised nonzero = by (isAccepted (findAt (now s) n .verdict)
         let spot = ap (λ (z : Spot). locateAt (take (z .to) (now s)) (z .from) w) p ∙ no-bytes 0 w in
         promised .0 ∙ ap (λ (z : Spot). take (z .to - z .from) (drop (z .from) (now s))) spot
 
--- ---- which verdict it is
+-- ---- which verdict is given
 
--- of a file that is not acceptable: the number and the place of the field that is wrong
+-- a file that is not acceptable gets the number and the place of the field that is wrong
 pub make-refused-file : (s : RefT (List ℕ)) (n : ℕ) (m : Made) → IsMade s (findAt (now s) n) m → ¬ Acceptable (now s) → RefusedFile (now s) (m .verdict)
 make-refused-file s n m promised not = subst (RefusedFile (now s)) (sym (promised .2)) (find-refused-file (now s) not n)
 
@@ -106,7 +110,7 @@ module _ (file : List ℕ) (n : ℕ) (w : Wanted) where
       let h = textAt file n w .verdict in
       ap (λ (z : Spot). firstOf (z .verdict) h) e ∙ ap (λ b. ifNone b (p .verdict) h) (ne-eqb (p .verdict .number) 0 nonzero)
 
-  -- that of the check, where the file is not acceptable
+  -- where the file is not acceptable, the verdict is that of the check
   pub verdict-as-checked : ¬ Acceptable file → verdictFor file n w ≡ outcome (answer file) .verdict
   verdict-as-checked not = making-first (find-as-checked file not n) (λ z. not (zero-exactly file .0 z))
 
@@ -121,13 +125,13 @@ module _ (file : List ℕ) (n : ℕ) (w : Wanted) where
       by true = locate-number (viewed file n) (findAt file n .from) w
       by false = find-number file n
 
-  -- 19 at 0, where there are fewer payments
+  -- where an acceptable file has no payment n, the verdict is 19 at 0
   pub verdict-no-payment : (x : Acceptable file) → length (x .0 .payments) ≤ n → verdictFor file n w ≡ refusing 19 0
   verdict-no-payment x h = making-first (no-payment file x n h) nineteen
 
 -- ---- what is given back of payment n, where it is p
 
--- all of the bytes
+-- the stretch from 0 to the end is all of the bytes
 whole : (f : List ℕ) → take (length f - 0) (drop 0 f) ≡ f
 whole f = ap (λ n. take n f) (sub-zero (length f)) ∙ take-all (length f) f (omega arith)
 
@@ -158,13 +162,13 @@ module _ (s : RefT (List ℕ)) (x : Acceptable (now s)) (n : ℕ) (p : Payment) 
       let v = view-is m made in
       subst (λ z. IsHanded (m .view .file) z h) (ap (λ f. locateAt f (m .view .start) w) (v .bytes) ∙ ap (λ q. locateAt (now s) q w) (v .begins)) handed
 
-  -- and so without a view that is kept
+  -- what `text_of` and `verdict_of` seek is sought in the file itself, at the payment's start
   sought-as : (w : Wanted) → textAt (now s) n w ≡ locateAt (now s) start w
   sought-as w =
       let all = take-all (length (now s)) (now s) (omega arith) in
       ap (λ (z : Spot). locateAt (take (z .to) (now s)) (z .from) w) (it .found) ∙ ap (λ f. locateAt f start w) all
 
-  -- the text itself: its bytes, and that stretch of the file itself
+  -- r is the text t: its bytes, as that stretch of the file itself
   pub record TextIs (w : Wanted) (t : List ℕ) (r : RefT (List ℕ)) : Type 0 where
     pub bytes : now r ≡ t
     pub memory : r .ptr .0 ≡ s .ptr .0
@@ -174,7 +178,7 @@ module _ (s : RefT (List ℕ)) (x : Acceptable (now s)) (n : ℕ) (p : Payment) 
     cut : take (start + placeOf w + textWidth - (start + placeOf w)) (drop (start + placeOf w) (now s)) ≡ t
     cut = ap (λ k. take k (drop (start + placeOf w) (now s))) (add-sub-cancel-left (start + placeOf w) textWidth) ∙ it .text-bytes w t has
 
-    -- a hand-out of the view that was made
+    -- a hand-out of the view that was made gives the text, with 0 at 0
     pub texts-are : (m : Made) → IsMade s (findAt (now s) n) m → (h : Handed) → IsHanded (m .view .file) (locateAt (now (m .view .file)) (m .view .start) w) h
         → (h .verdict ≡ accepting) × TextIs w t (h .text)
     texts-are m made h handed =
@@ -187,7 +191,7 @@ module _ (s : RefT (List ℕ)) (x : Acceptable (now s)) (n : ℕ) (p : Payment) 
     spot-is : textAt (now s) n w ≡ standing (start + placeOf w) (start + placeOf w + textWidth)
     spot-is = sought-as w ∙ it .text w t has
 
-    -- the same, without a view that is kept
+    -- `text_of` gives the text
     pub text-is : (r : RefT (List ℕ)) → IsText s n w r → TextIs w t r
     text-is r e =
         let p = spot-is in
@@ -198,7 +202,7 @@ module _ (s : RefT (List ℕ)) (x : Acceptable (now s)) (n : ℕ) (p : Payment) 
     unfolding firstOf
     not-refused = let p = spot-is in λ j. firstOf (it .found j .verdict) (p j .verdict)
 
-  -- a text that it has not: 19 at 0, and an empty text
+  -- a text that the payment has not: 19 at 0, and an empty text
   module _ (w : Wanted) (lacks : textOf w p ≡ none) where
     pub no-text-handed : (m : Made) → IsMade s (findAt (now s) n) m → (h : Handed)
         → IsHanded (m .view .file) (locateAt (now (m .view .file)) (m .view .start) w) h → (h .verdict ≡ refusing 19 0) × (now (h .text) ≡ [])

@@ -1,9 +1,14 @@
--- The steps that all walks of the crate take, whatever function they go through. They are for functions whose parameters end as they were passed, and whose promise is a fact.
+-- The steps that all walks of the crate take, whatever function they go through. They are for functions whose parameters end as they were
+-- passed, and whose promise is a fact.
+-- A walk runs a function's MIR step by step over a list of what is owned. The step that counts is a call: what the callee asks is made from the
+-- tokens of the lifetimes and from what the caller can have once more, since a shared slice and a view are Copy; the result then stands there as
+-- its machine value, and the callee's promise is a fact from there on (`asks`). At the end every local goes, nothing is kept of the parameters,
+-- and the result with its promise is all that is owed (`exits`), which makes the walk a proof of the contract (`proves`).
 --     with-number      what a number owns is had for nothing, and joins what stands at the head
 --     field-of         out of a struct that is Copy: what a field owns, and the struct is kept
 --     goes             a local goes, whatever it holds
 --     asks-plain       a call, with what the callee asks at the head. Its promise is learned, and the result is its machine value, written out
---     asks, lent       the same where the callee asks for what the caller can have once more out of F, and for plain data: the caller keeps F
+--     asks, lent       a call where the callee asks for what the caller can have once more out of F, and for plain data: the caller keeps F
 --     exits            how a walk ends: with the result, and the promise
 --     proves           a walk of a function's MIR, over the routines that its calls mean, proves that it meets its contract
 -- Assumes `Given`, and of a call that the callee meets its contract.
@@ -50,7 +55,7 @@ module _ {M : Type 1} {𝓤 : URA M} {H : Heap 𝓤} {A : Atoms 𝓤} {K : Type 
   pub with-number : K → (w : Width) (n : ℕ) → n < 2 ^ bits w → {P : Fml} {G : Goal 𝓤 H} → Step K W (‵ (fsep (UInt w .own n (vint w n ∷ [])) P) ∷ Γ) G (‵ P ∷ Γ) G
   with-number t w n fits = step (λ s. owned t (UInt w) (Is (UInt w)) (uint-makes 𝓤 H A W w) n (vint w n ∷ []) (refl, fits) $ fjoin t $ s)
 
-  -- entry n is its cell, and the next frees it
+  -- entry n is the local's cell, and the next entry frees it
   pub goes : K → (n : ℕ) {τ : Ty} {b : ℕ} {v : Val} {E : Env 𝓤 H} {g : Goal 𝓤 H} → nth 𝓤 H A n Γ ≡ ‵ (fat fullShare τ b zero v) → nth 𝓤 H A n (del 𝓤 H A n Γ) ≡ ‵ (fdies τ b)
       → Step K W (del 𝓤 H A n (del 𝓤 H A n Γ)) (frees E g) Γ (frees ((τ, b) ∷ E) g)
   goes t n {τ} {b} {v} cell dies =
@@ -74,11 +79,11 @@ module _ {M : Type 1} (𝓤 : URA M) (H : Heap 𝓤) (A : Atoms 𝓤) (T : Ended
   abbrev pub Promise : Contract 𝓤
   Promise = tripleOf 𝓤 H A (T .signature) (closing 𝓤 H A T c)
 
-  -- the type of its result
+  -- the type of the callee's result
   abbrev pub Result : Promise .Ghost → RattleType
   Result y = typeAt (T .signature .result) (y .0 .0)
 
-  -- the tokens of the lifetimes, which it gives back
+  -- the tokens of the lifetimes, which the callee gives back
   abbrev pub Alive : Promise .Ghost → SProp 𝓤
   Alive y = alive 𝓤 H A (T .signature) (y .0 .0) (y .0 .1)
 
@@ -108,7 +113,8 @@ module _ {M : Type 1} {𝓤 : URA M} {H : Heap 𝓤} {A : Atoms 𝓤} {K : Type 
       → Seq K W (raw (Alive 𝓤 H A T c y) ∷ ‵ F ∷ Γ) (runs C Λ E (seq (call f xs d) rest) q)
   asks t fm T c known y val φ F tells says asked os k = use2 W (raw (Promise 𝓤 H A T c .pre y) ⊛ ‵ F) asked $ split t $ asks-plain t fm T c known y val φ tells says os k
 
--- what the callee asks, where the first parameter's part F₀ can be had out of F once more, and what the others own, P, and what is required are had for nothing
+-- what the callee asks, where the first parameter's part F₀ can be had out of F once more, and what the others own, P, and what is required are
+-- had for nothing
 pub lent : {M : Type 1} (𝓤 : URA M) (H : Heap 𝓤) (A : Atoms 𝓤) (W : Given 𝓤 H A) (T : Ended) (c : Clauses 𝓤 T) (y : Promise 𝓤 H A T c .Ghost) {F₀ P : Fml} (F : Fml) → owns (typesAt (T .signature .params) (y .0 .0)) (y .0 .3) (y .0 .4) ≡ fsep F₀ P
     → ent 𝓤 (sem 𝓤 H A F) (sep 𝓤 (sem 𝓤 H A F₀) (sem 𝓤 H A F)) → ent 𝓤 (emp 𝓤) (sem 𝓤 H A P) → ent 𝓤 (emp 𝓤) (c (y .0 .0) (y .0 .3) .requires (y .1))
     → Asked 𝓤 H A T c y F

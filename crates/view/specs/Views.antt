@@ -34,7 +34,7 @@ viewed file n = take (findAt file n .to) file
 abbrev pub textAt : List ℕ → ℕ → Wanted → Spot
 textAt file n w = locateAt (viewed file n) (findAt file n .from) w
 
--- r is that text, as a stretch of the file s itself
+-- r is the text at the spot of `textAt`, as a stretch of the file s itself
 abbrev pub IsText : RefT (List ℕ) → ℕ → Wanted → RefT (List ℕ) → Type 0
 IsText s n w r = let p = textAt (now s) n w in Stretch s (p .from) (p .to) r
 

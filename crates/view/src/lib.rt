@@ -9,7 +9,7 @@ ghost use Rattle.view.specs.Views.{Stretch, IsMade, IsHanded, IsText, fi
 use finder::Wanted;
 use verdict::Verdict;
 
-// A payment: the file, and where the payment begins in it.
+// A view of one payment: the file, and where the payment begins in it.
 pub struct View<'a> {
     pub file: &'a [u8],
     pub start: usize,
@@ -71,7 +71,7 @@ pub fn text_of<'a>(file: &'a [u8], n: usize, w: Wanted) -> &'a [u8]
     handed.text
 }
 
-// The verdict on that text.
+// The verdict on the text that `text_of` gives: the refusal of the making, or else the verdict of the hand-out.
 pub fn verdict_of(file: &[u8], n: usize, w: Wanted) -> Verdict
     ensures { λ r. ⌜ r ≡ verdictFor (now (file .entry)) n w ⌝ }
 {

@@ -1,4 +1,8 @@
 -- checker::file_at meets its contract: a walk through A, then turn by turn through the payments, then E.
+-- The loop keeps `Turn`: so many payments were read, which come to these sums, and the answer owed for the file is what the rest from `at` on
+-- gives. Each way through a turn is one law of `TurnLaws`: the first field refuses, E comes, a payment refuses, a payment was read. A payment
+-- comes only where the count is below the most (`one-more`), so that the loop ends and the count does not wrap; what the calls require and the
+-- cases of each answer are by `search needs`.
 -- Assumes nothing.
 use Prim.Native.Nat.{_-_}
 use native.Mathlib.Omega.{arith}

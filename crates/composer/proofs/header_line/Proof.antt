@@ -1,4 +1,4 @@
--- composer::header_line meets its contract: its form, then its record, laid out and read.
+-- composer::header_line meets its contract: the line's form, then its record, laid out and read.
 -- Assumes nothing.
 use native.Mathlib.Omega.{arith}
 use mathlib.Core.Path.{refl, sym, ap, _∙_}
@@ -15,7 +15,7 @@ use Rattle.composer.proofs.ToldLaws.{header-denied, header-refuses, hea
 use Rattle.composer.proofs.header_line.Statement.{statement}
 use Rattle.composer.proofs.header_line.Tie as tie
 
--- behind the test of the form
+-- behind the test the line has its form
 formed : (c : tie.Else1) → FormedLine true fieldsOfHeaderLine (c .before .before .before .args .x .now)
 formed c = (omega arith, (omega arith, sym (c .before .formed .ensures) ∙ not-false _ (c .if1 .left)))
 

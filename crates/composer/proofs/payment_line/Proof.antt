@@ -1,4 +1,8 @@
--- composer::payment_line meets its contract: its form, then its record, laid out and read.
+-- composer::payment_line meets its contract: the line's form, then its record, laid out and read.
+-- There is no loop, and each return is a law of ToldLaws: `payment-denied`, `payment-refuses`, `payment-accepts`. They ask for three facts that
+-- are gathered on the way: k is the number of parts that the line tells (`parts`), the line has its form behind the test (`formed`), and what
+-- was read is the record laid out from the line (`read`). The last is the long one: a front part of the lent space is lent on to be written and
+-- then to be read, so its length has to be known at both (`within`, `long`, `laid-long`).
 -- Assumes nothing.
 use Prim.Native.Nat.{ℕ, _+_, _*_, _≤_, min}
 use native.Mathlib.Omega.{arith}
@@ -28,7 +32,7 @@ use Rattle.composer.proofs.payment_line.Tie as tie
 parts : (c : tie.After-parts-of) → c .parts-of .result ≡ partsOf (length (split tab (c .before .before .before .before .args .x .now)))
 parts c = c .parts-of .ensures ∙ ap partsOf (c .before .count-fields .ensures)
 
--- behind the test of the form
+-- behind the test the line has its form, and at most fifteen parts
 few-parts : (c : tie.Else1) → c .before .before .parts-of .result ≤ mostParts
 few-parts c = let e = parts (c .before .before) in let h = few (length (split tab (c .before .before .before .before .before .before .args .x .now))) in omega arith
 

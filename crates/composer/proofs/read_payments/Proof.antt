@@ -1,4 +1,8 @@
 -- composer::read_payments meets its contract: line by line, and then the end.
+-- The loop keeps `Reading`: what is to be told of all lines is what is owed of the lines from p on; and the space keeps its length. Each turn
+-- takes apart what `line_at` told: a payment takes the loop on (`reading-more`), a refusal ends it (`reading-refused`), and a line that has no
+-- end leads to the returns behind the loop (`reading-cut`, `reading-none`, `reading-ends`). The loop ends, and neither count nor size wraps,
+-- since at most 9,999,999 payments are told, none longer than one with the most parts (`one-more`, `record-small`).
 -- Assumes nothing.
 use Prim.Native.Nat.{ℕ, _-_, _*_}
 use native.Mathlib.Omega.{arith}

@@ -1,4 +1,8 @@
 -- composer::write_file meets its contract: A, the payments and E, one behind the other.
+-- There is no loop. What the three writings ask comes from `Ready`: the first line has its form and is laid out as A (`head-is`), behind it
+-- stand the lines of the accepted payments (`payments-accepted`), and the figures have room in E (`writable`). Each is lent a part of the
+-- output; that the output keeps its length, has room for E at the end and then begins with the file is followed in FileLaws (`first-long`,
+-- `end-room`, `file-written`).
 -- Assumes nothing.
 use Prim.Native.Nat.{_+_, _≤_}
 use native.Mathlib.Omega.{arith}

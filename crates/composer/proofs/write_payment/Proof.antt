@@ -1,4 +1,4 @@
--- composer::write_payment meets its contract: its record is laid out where it belongs.
+-- composer::write_payment meets its contract: the payment's record is laid out where it belongs.
 -- Assumes nothing.
 use Prim.Native.Nat.{_+_, _*_, _≤_}
 use native.Mathlib.Omega.{arith}
@@ -27,7 +27,7 @@ few-parts c = let e = parts c in let h = few (length (split tab (c .before .befo
 formed : (c : tie.After-parts-of) → FormedLine false (fieldsWith (c .parts-of .result)) (c .before .before .before .args .x .now)
 formed c = subst (λ k. FormedLine false (fieldsWith k) (c .before .before .before .args .x .now)) (sym (parts c)) (c .before .before .before .pre .0)
 
--- the bytes that its record takes
+-- the bytes that the payment's record takes
 size : (c : tie.After-bytes-of) → c .bytes-of .result ≡ 128 * section (linesParts (c .before .before .before .before .args .x .now))
 size c = bytes-told _ (parts (c .before)) (c .bytes-of .ensures)
 

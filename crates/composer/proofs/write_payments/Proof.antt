@@ -1,4 +1,7 @@
 -- composer::write_payments meets its contract: one record after another.
+-- The loop keeps `Putting`: the records of the payments passed stand in the output, and the lines from p on tell the others. As long as a
+-- payment is still to come (`left`), its line is ended (`ends`, found from behind its numbers by `texts-end`), has the form that `write_payment`
+-- asks for (`line-written`), and its record fits (`next-room`); `putting-more` is the turn. Behind the last all records stand there (`all-put`).
 -- Assumes nothing.
 use Prim.Native.Nat.{_+_, _-_, _≤_, _<_}
 use native.Mathlib.Omega.{arith}
@@ -23,7 +26,7 @@ abbrev μ-loop : tie.MeasureT-loop
 left : (c : tie.In-loop Inv-loop μ-loop) → c .before .loop .row < length (composedPayments (compose (c .before .before .before .before .args .l .now)))
 left c = let n = counted (c .before .before .before .before .pre) in let h = c .loop-test .taken in omega arith
 
--- where its line ends
+-- where the line of the next payment ends
 ends : (c : tie.After-rest-of-line Inv-loop μ-loop)
     → c .rest-of-line .result .end ≡ c .before .before .loop .p + reach lineEnd (drop (c .before .before .loop .p) (c .before .before .before .before .before .args .l .now))
 ends c = c .rest-of-line .ensures .0 ∙ texts-end (c .before .before .loop .inv) (left (c .before))

@@ -1,4 +1,8 @@
 -- dates::execution_at meets its contract: blanks, or eight digits that name a day in the span.
+-- Each of the five ways out is one law of `LeafLaws`: the leaf's refusal by `field-fails`, no day and a day outside the span by `field-broken`,
+-- no date and a day in the span by `field-holds`. The leaf's answer tells blanks, the number or the refusal (`blank-is`, `some-is`,
+-- `maybe-fails`); a number of eight digits names in the code the day that it names in the rules (`named`), so that `is_day` and `in_span` are
+-- the field's two rules in their order. The other facts are by `search needs`.
 -- Assumes nothing.
 use Prim.Native.Nat.{_+_}
 use mathlib.Core.Option.{some}
@@ -28,7 +32,7 @@ number : (c : tie.After-of-ddmmyyyy)
     → (lookAt (maybe 8) (start c .args .s .now) (start c .args .p) ≡ has (some (c .before .before .a2 .given .0 .0))) × (c .before .before .a2 .given .0 .1 .0 ≡ start c .args .p + 8)
 number c = some-is (start c .args .p) (start c .args .p + 8) _ (c .before .before .before .before .maybe-number-at .ensures) (c .before .before .a2 .given .1)
 
--- the day that it names
+-- the day of the code is the one that the number names in the rules
 named : (c : tie.After-of-ddmmyyyy) → dayOf (c .of-ddmmyyyy .result) ≡ ofDDMMYYYY (c .before .before .a2 .given .0 .0)
 named c = names-execution (start c .args .s .now) (start c .args .p) _ (number c .0) (c .of-ddmmyyyy .ensures)
 

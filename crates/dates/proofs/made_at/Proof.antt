@@ -27,7 +27,7 @@ number : (c : tie.After-of-ddmmyy)
     → (lookAt (digits 6) (start c .args .s .now) (start c .args .p) ≡ has (c .before .before .a .given .0 .0)) × (c .before .before .a .given .0 .1 .0 ≡ start c .args .p + 6)
 number c = number-is (start c .args .p) (start c .args .p + 6) _ (c .before .before .before .before .number-at .ensures) (c .before .before .a .given .1)
 
--- the day that it names
+-- the day of the code is the one that the number names in the rules
 named : (c : tie.After-of-ddmmyy) → dayOf (c .of-ddmmyy .result) ≡ ofDDMMYY (c .before .before .a .given .0 .0)
 named c = names-made (start c .args .s .now) (start c .args .p) _ (number c .0) (c .of-ddmmyy .ensures)
 

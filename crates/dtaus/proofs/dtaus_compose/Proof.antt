@@ -1,4 +1,5 @@
--- dtaus::dtaus_compose meets its contract: a result without room is refused, any other gets the figures of the composing, which has written the output.
+-- dtaus::dtaus_compose meets its contract: a result without room is refused, any other gets the figures of the composing, which has written the
+-- output.
 -- Assumes nothing.
 use native.Mathlib.Omega.{arith}
 use borrow.Author.Needs.{needs}

@@ -1,4 +1,5 @@
--- dtaus::dtaus_text meets its contract: a result without room is refused, any other gets the figures of the stretch of the text that the number names.
+-- dtaus::dtaus_text meets its contract: a result without room is refused, any other gets the figures of the stretch of the text that the number
+-- names.
 -- Assumes nothing.
 use native.Mathlib.Omega.{arith}
 use borrow.Author.Needs.{needs}

@@ -1,4 +1,7 @@
 -- fields::maybe_number_at meets its contract: whole, then all blanks, then every digit.
+-- Each of the four ways out is one law of `LeafLaws`: too short by `leaf-short`, blanks and a number by `leaf-right`, no digit by `leaf-wrong`.
+-- The form's test for blanks is the code's by `judge-maybe`, and behind it `maybe-are` and `maybe-not` say what `digits_of` came to. That the
+-- stretch ends in the file follows from `whole`; the other facts are by `search needs`.
 -- Assumes nothing.
 use Prim.Native.Nat.{_+_}
 use native.Mathlib.Nat.{add-sub-cancel-left}

@@ -1,4 +1,7 @@
 -- fields::name_at meets its contract: whole, then every sign, then one that is no blank.
+-- Each of the four ways out is one law of `LeafLaws`: too short and no sign by `field-fails`, all blank by `field-broken`, a name by
+-- `field-holds`. What `signs_of` says of the bytes, permitted and blank, is what the form's text and its rule ask (`text-not`, `text-has`). That
+-- the stretch ends in the file follows from `whole`; the other facts are by `search needs`.
 -- Assumes nothing.
 use Prim.Native.Nat.{_+_}
 use native.Mathlib.Nat.{add-sub-cancel-left}

@@ -1,4 +1,4 @@
--- finder::has_text meets its contract: it has each field, and the parts from 1 to k.
+-- finder::has_text meets its contract: a payment of k parts has each field, and the parts from 1 to k.
 -- Assumes nothing.
 use mathlib.Core.Path.{sym, ap}
 use borrow.Author.Needs.{needs}

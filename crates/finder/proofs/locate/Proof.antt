@@ -1,4 +1,7 @@
 -- finder::locate meets its contract: the check's refusal, 19, or where the text stands in the payment that begins there.
+-- There is no loop. Each return is a case of `locateAt`, by the law of SpotLaws for it, from the check's answer and from what `begins`,
+-- `count_at` and `has_text` have told. What the callees require is by `search needs`, but for the count that `begins` asks for (`count-is`) and
+-- the text of the longest payment that `text_place` asks for (`longest`). Neither addition wraps, since the text ends in the file (`ends`).
 -- Assumes nothing.
 use Prim.Native.Nat.{_+_, _≤_}
 use native.Mathlib.Omega.{arith}

@@ -1,4 +1,9 @@
 -- header::opening_at meets its contract: a walk through the fields A1 to A7.
+-- `past0` to `past6` are the `Walk` behind each field: the place that was come to, and that the answer owed is what the fields from there on
+-- give. A field with a content takes it on (`pass`, `past`, `past-ruled`), and the refusal of one without is the answer owed (`stop`,
+-- `stop-ruled`); what the calls require and the cases of each answer are by `search needs`. The numbers pass as they are read; of A3 the walk
+-- has the letters and the code the kind, which `letters-are` and `kind-back` join, and the day of A7 is the one that its number names
+-- (`day-is`).
 -- Assumes nothing.
 use borrow.Author.Needs.{needs}
 use Rattle.form.specs.Place.{readAt}
@@ -20,7 +25,7 @@ past1 c = pass (past0 (c .before .before .before .before .before .before)) (c .b
 past2 : (c : tie.After-known-told2) → On (past1 (c .before .before .before .before .before) .1) (c .before .a2 .given .0 .0)
 past2 c = pass (past1 (c .before .before .before .before .before) .1) (c .before .before .before .fixed-at2 .ensures) (c .before .a2 .given .1)
 
--- the letters are those of the kind
+-- A3: the walk goes on with the letters of the kind that the code keeps
 past3 : (c : tie.After-known-told3) → Next (past2 (c .before .before .before .before) .1) (lettersOf (c .before .a3 .given .0 .0)) (c .before .a3 .given .0 .1 .0)
 past3 c = past (past2 (c .before .before .before .before) .1) (letters-are _ _ _ (c .before .before .before .kind-at .ensures) (c .before .a3 .given .1))
 

@@ -1,4 +1,8 @@
 -- line_reader::amount_at meets its contract: each number is read, keeps its rules, and the cents are added.
+-- There is no loop; each return is one answer. At the last all has gone well: what the leaves have read (`number-is`), the tests passed (`both`,
+-- `each`) and the sum within its limit make the amount, field by field (`returns-6`, by `kept-C10` to `kept-C12`). Each of the others has to
+-- deny every amount at p: one that stood there would be read, with the very numbers that the code has read, and keep the rule whose test failed
+-- (`no-number`, `amount-tests`, `keeps-C12`). The rest is by `search needs`.
 -- Assumes nothing.
 use mathlib.Core.Path.{sym, _∙_}
 use borrow.Author.Needs.{needs}

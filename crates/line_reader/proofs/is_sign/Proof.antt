@@ -11,7 +11,7 @@ use Rattle.document.specs.Signs.{sign}
 use Rattle.line_reader.proofs.is_sign.Statement.{statement}
 use Rattle.line_reader.proofs.is_sign.Tie as tie
 
--- as the code tests them
+-- a byte as the code tests it
 abbrev told : ℕ → Bool
 told b = (eqb (bitAnd (0x03FF_FC71_3FFF_FFFE / 2 ^ bitAnd b 63) 1) 1 && (leb 0x20 b && ltb b 0x60)) || eqb b 0x7E
 

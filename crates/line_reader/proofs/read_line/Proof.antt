@@ -1,5 +1,8 @@
 -- line_reader::read_line meets its contract: what was seen, stretch by stretch, is the line of a payment, and a stretch that was not seen is in
 -- no such line.
+-- There is no loop; `seen` gathers what the three stretches have told, and of it the answer is made by `line-seen` and `told-is`. At each no
+-- `told-no` asks that nobody could have seen all of the line: the stretch that the code did not see would be in it. For the parts it has to be
+-- known that they would stand where the code has looked for them, behind texts that stand at their place once (`names-once`).
 -- Assumes nothing.
 use Prim.Native.Nat.{ℕ}
 use native.Mathlib.Omega.{arith}

@@ -1,4 +1,8 @@
 -- line_reader::receiver_at meets its contract: each number is read, keeps its rules, and two are added.
+-- There is no loop; each return is one answer. At the last all has gone well: what the leaves have read (`number-is`), the tests passed (`both`,
+-- `each`) and the two sums within their limits make the receiver, field by field (`returns-10`, by `kept-C4` to `kept-C7a`). Each of the others
+-- has to deny every receiver at p: one that stood there would be read, with the very numbers that the code has read, and keep the rule whose
+-- test failed (`no-number`, `receiver-tests`, `keeps-C4`, `keeps-C5`). The rest is by `search needs`.
 -- Assumes nothing.
 use mathlib.Core.Path.{sym, _∙_}
 use borrow.Author.Needs.{needs}

@@ -24,7 +24,7 @@ here c =
     let b = begun (c .before) in
     lying (b .args .head) (b .args .n) (b .args .s .now) (b .args .p) (b .pre) _ (c .before .loop-test .taken) _ (c .cell-at .ensures)
 
--- one field more
+-- one field more is counted
 more : tie.Need-loop-again Inv-loop μ-loop
 more c =
     let l = c .before .before .before .before in

@@ -15,7 +15,7 @@ use Rattle.lister.proofs.print_behind_tab.Tie as tie
 abbrev begun : tie.After-copy → tie.Start
 begun c = c .before .before .before .before
 
--- what the output holds then
+-- what the output holds behind the copying
 written : (c : tie.After-copy) → let a = begun c .args in c .copy .last .0 ≡ over (a .at) (tab ∷ a .t .now) (a .out .now)
 written c = let b = begun c in c .copy .ensures ∙ behind-tab (b .args .t .now) (b .args .out .now) (b .args .at) (b .pre)
 

@@ -21,7 +21,7 @@ begun c = c .before .before .before
 inside : (c : tie.After-cell-at) → begun c .args .p + (c .cell-at .result .place + c .cell-at .result .width) ≤ length (begun c .args .s .now)
 inside c = let a = begun c .args in cell-inside false (a .i) (a .s .now) (a .p) (c .cell-at .ensures) (begun c .pre .0)
 
--- all its bytes are printed
+-- all bytes of the cell are printed
 width : (c : tie.After-cell-at) → c .cell-at .result .width ≡ length (printedCell (c .cell-at .result) (begun c .args .s .now) (begun c .args .p))
 width c = let a = begun c .args in cell-full false (a .i) (a .s .now) (a .p) (c .cell-at .ensures) (begun c .pre .1)
 

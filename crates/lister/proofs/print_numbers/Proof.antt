@@ -1,4 +1,7 @@
 -- lister::print_numbers meets its contract: nine numbers, one behind the other.
+-- There is no loop: `to-0` to `to-9` say behind each call which number comes next, and that the numbers still to come, written there, make the
+-- output what it is to become (`Going`). Two laws serve all nine calls: `may` gives what a call asks, of the file by what is required and of the
+-- output because there is room for all numbers, and `past` is the step to the next. Behind the ninth nothing is still to come (`going-ends`).
 -- Assumes nothing.
 use Prim.Native.Nat.{ℕ, suc, _+_, _≤_, _<_}
 use native.Mathlib.Omega.{arith}
@@ -34,7 +37,7 @@ module _ (b : tie.Start) {out : List ℕ} {at i : ℕ} (g : To b out at i) (h : 
   past : {out′ : List ℕ} {at′ : ℕ} → at′ ≡ at + suc (length field) → out′ ≡ over at (tab ∷ field) out → To b out′ at′ (suc i)
   past = going-more g (tab ∷ field) (suc i) (numbers-more (b .args .s .now) (b .args .p) i h)
 
--- ---- each of them, and behind it the next
+-- ---- each number, and behind it the next
 
 print-number-requires : tie.Need-print-number-requires
 print-number-requires c κs = let b = c .before .before .before in may b (to-0 b) (omega arith)

@@ -1,4 +1,8 @@
 -- lister::print_part meets its contract: the mark behind a tab, and the text without its trailing blanks behind another.
+-- There is no loop. The code looks up the cell of the mark alone; that the text stands right behind it, with the same widths in every part, is
+-- tried for all fifteen in PartLaws, which gives the bytes of both (`mark-is`, `words-are`) and that they lie in the file (`inside`). Behind the
+-- mark the output holds it (`marked`), there is room for the text because there is room for both, and `both-over` joins the two. The bounds of
+-- the slices are `inside` or by `search needs`.
 -- Assumes nothing.
 use Prim.Native.Nat.{ℕ, _+_, _-_, _≤_}
 use native.Mathlib.Omega.{arith}
@@ -44,7 +48,7 @@ words-are c =
     let b = begun c in
     ap (λ bs. tab ∷ bs) (text-bytes (b .args .part) (b .pre .0) (b .args .s .now) (b .args .p) (b .pre .1) (c .cell-at .ensures))
 
--- behind the mark
+-- the call's start, seen from behind the mark
 abbrev start : tie.After-print-behind-tab → tie.Start
 start c = begun (found c)
 

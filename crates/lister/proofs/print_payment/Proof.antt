@@ -1,4 +1,9 @@
 -- lister::print_payment meets its contract: the letter, the numbers, the texts, mark and text of each part, and the line's end.
+-- All along `Going` is kept: what is still to come of the line, written where the code stands, makes the output what the whole line makes of it.
+-- The numbers go off it at once (`numbered`), then a text in each turn of the first loop and a part in each turn of the second; each loop starts
+-- anew where it stands, and `ended` puts the three ways together (`going-on`), behind which the line's end makes the line whole. What the
+-- callees ask of the file is that the fields lie in it (`lies`) and, the one fact beyond places, that numbers and marks stand in full width
+-- (`first-full`, `mark-full`).
 -- Assumes nothing.
 use Prim.Native.Nat.{ℕ, _+_, _-_, _≤_, _<_}
 use native.Mathlib.Omega.{arith}
@@ -16,7 +21,7 @@ use Rattle.lister.proofs.NumberLaws.{first-full, mark-full}
 use Rattle.lister.proofs.print_payment.Statement.{statement}
 use Rattle.lister.proofs.print_payment.Tie as tie
 
--- the texts, and then the parts
+-- what the loop over the texts keeps, and then that over the parts
 abbrev Inv-loop : tie.InvT-loop
 Inv-loop k s p out₀ q at₀ i₀ out at i = (i ≤ fieldsOfPaymentLine) × Going (restOf false (fieldsWith k) s p) out₀ at₀ i₀ out at i
 
@@ -39,11 +44,11 @@ begun c = c .before .before .before
 lies : (b : Start) (i : ℕ) → i < fieldsWith (b .args .k) → FieldLies false i (b .args .s .now) (b .args .p)
 lies b i h = let a = b .args in lying false (fieldsWith (a .k)) (a .s .now) (a .p) (b .pre .0) i h (cellAt false i) refl .inside
 
--- no line has more parts
+-- the payment has at most fifteen parts
 few : (b : Start) → b .args .k ≤ mostParts
 few b = let l = b .pre .0 .0 in let n : length (cellsOf false) ≡ fieldsWith mostParts = refl in omega arith
 
--- behind the letter, the numbers come
+-- behind the letter the numbers are next
 lettered : (c : tie.After-letter Inv-loop μ-loop Inv-loop2 μ-loop2) → let a = begun c .args in
     Going (restOf false (fieldsWith (a .k)) (a .s .now) (a .p)) (set (a .out .now) (a .q) (c .letter .result)) (a .q + 1) 0
     (set (a .out .now) (a .q) (c .letter .result)) (a .q + 1) 0
@@ -52,7 +57,7 @@ lettered c =
     let a = b .args in
     line-start false (fieldsWith (a .k)) (a .s .now) (a .p) (a .out .now) (a .q) (b .pre .2) (c .letter .result) (c .letter .ensures)
 
--- and behind them, the texts
+-- behind the numbers the texts are next
 numbered : (c : tie.After-print-numbers Inv-loop μ-loop Inv-loop2 μ-loop2) → let j = c .before .before in let a = begun j .args in
     Going (restOf false (fieldsWith (a .k)) (a .s .now) (a .p)) (set (a .out .now) (a .q) (j .letter .result)) (a .q + 1) 0
     (c .print-numbers .last .1 .1 .0) (c .print-numbers .result) numbersOfPaymentLine

@@ -16,7 +16,7 @@ use Rattle.lister.proofs.print_trimmed.Tie as tie
 abbrev begun : tie.After-trimmed → tie.Start
 begun c = c .before .before .before .before
 
--- as many bytes as are printed
+-- `trimmed` tells how many bytes are printed
 width : (c : tie.After-trimmed) → let a = begun c .args in c .trimmed .result ≡ length (trim (take (a .w) (drop (a .a) (a .s .now))))
 width c = let a = begun c .args in width-is (a .a) (a .w) (a .s .now) (c .trimmed .ensures)
 

@@ -1,4 +1,4 @@
--- lister::trimmed meets its contract: from i on there is nothing but blanks.
+-- lister::trimmed meets its contract: from i on the text has nothing but blanks.
 -- Assumes nothing.
 use native.Mathlib.Omega.{arith}
 use Rattle.lister.proofs.TrimLaws.{Trimming, trim-start, trim-more, trim-stop, trim-all}

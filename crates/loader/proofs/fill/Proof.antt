@@ -1,4 +1,8 @@
 -- loader::fill meets its contract: row by row, from one payment to the next.
+-- The loop keeps `Filling`: `row` payments are passed, the next stands at p, and in each column the rows still to come, written from `row` on,
+-- make what all rows make of the column as it was. `fill-more` is one turn of it; it rests on `pass-to` of the layout, by which C18 of a payment
+-- tells where the next begins. The three numbers can be read because the payment at p stands in the file with its digits (`row`), and the
+-- columns can be written because each is as long as it was and has room for n rows (`has-room`); the rest is arithmetic or by `search needs`.
 -- Assumes nothing.
 use Prim.Native.Nat.{_-_, _≤_, _<_}
 use native.Mathlib.Omega.{arith}
@@ -22,7 +26,7 @@ abbrev μ-loop : tie.MeasureT-loop
 abbrev In-loop : Type 0
 In-loop = tie.In-loop Inv-loop μ-loop
 
--- where the rows are written
+-- the point of a turn where the payment's numbers are read and its row is written
 abbrev Read : Type 0
 Read = tie.After-count-at Inv-loop μ-loop
 
@@ -36,7 +40,7 @@ turn c = c .before .before .before .before
 coming : (c : In-loop) → c .before .loop .row < length (paymentsOf (answer (begun c .args .s .now)))
 coming c = subst (λ n. c .before .loop .row < n) (begun c .pre .0) (c .loop-test .taken)
 
--- its row can be read
+-- the numbers of the payment that comes next can be read
 here : (c : In-loop) → Row (begun c .args .s .now) (c .before .loop .p) (next (c .before .loop .inv) (coming c) .payment)
 here c = row (next (c .before .loop .inv) (coming c) .begun)
 

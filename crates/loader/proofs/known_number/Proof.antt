@@ -15,7 +15,7 @@ Inv-loop s p w v₀ i₀ v i = Spelt (take w (drop p s)) i v
 abbrev μ-loop : tie.MeasureT-loop
 μ-loop s p w v₀ i₀ v i = w - i
 
--- the byte there is a digit
+-- the byte that is read next is a digit
 digit : (c : tie.After-shared-slice-known Inv-loop μ-loop) → let b = c .before .before .before .args in let x = getD (b .s .now) (b .p + c .before .before .loop .i) 0 in (0x30 ≤ x) × (x ≤ 0x39)
 digit c = let b = c .before .before .before in digit-there _ _ _ (b .pre .0) (b .pre .1 .1) _ (c .before .loop-test .taken)
 

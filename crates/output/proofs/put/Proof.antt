@@ -1,4 +1,8 @@
 -- output::put meets its contract: with room for the whole field its bytes and then blanks are written, and none without.
+-- Both loops keep `Writing`, that the first i bytes of the wide field stand in the output from p on: the first loop while they are the field's
+-- own (`pad-text`), the second while they are blanks (`pad-blank`). The second loop is said of the output that it finds, so what the first has
+-- written is taken for what was there (`writing-on`), and at the end the two are put together (`writing-both`). All places lie in the output
+-- because there is room for w bytes, and the wide field has w (`pad-length`).
 -- Assumes nothing.
 use Prim.Native.Nat.{_-_, _≤_, min}
 use native.Mathlib.Omega.{arith}
@@ -13,7 +17,7 @@ use Rattle.output.proofs.WritingLaws.{Writing, writing-start, writing-m
 use Rattle.output.proofs.put.Statement.{statement}
 use Rattle.output.proofs.put.Tie as tie
 
--- n bytes are the field's own
+-- the first loop: n of the bytes to be written are the field's own
 abbrev Inv-loop : tie.InvT-loop
 Inv-loop out₀ p t w n i₀ out i = Writing out₀ p (pad w t) out i × (n ≡ min w (length t)) × (i ≤ n)
 

@@ -15,7 +15,7 @@ use Rattle.fields.proofs.LeafLaws.{field-broken, field-fails, field-holds}
 use Rattle.parts.proofs.mark_in.Statement.{statement}
 use Rattle.parts.proofs.mark_in.Tie as tie
 
--- the two digits
+-- the mark that was read, two digits
 content : (c : tie.After-known-told) → lookAt (digits 2) (c .before .before .before .before .before .args .part .now) 0 ≡ has (c .before .read .given .0 .0)
 content c = number-is 0 2 _ (c .before .before .before .number-at .ensures) (c .before .read .given .1) .0
 

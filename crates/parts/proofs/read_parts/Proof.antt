@@ -1,4 +1,9 @@
 -- parts::read_parts meets its contract: whenever a turn begins, the parts that are left, from its place on, give what all parts give.
+-- A turn takes that walk past the closing blanks, the mark and the text of one part (`past-blanks`, `past-mark`, `past-words`). Mark and text
+-- are read in the slice that is the part, and are fields of the file (`mark-there`, `words-there`), where their refusals are named
+-- (`fails-there`); behind them the walk is over the parts still left, with the room that the mark leaves, since nothing is kept of a part
+-- (`not-kept`). No place wraps, because a field that was read lies in the file (`field-inside`, `look-inside`); the other facts are by
+-- `search needs`.
 -- Assumes nothing.
 use Prim.Native.Nat.{_+_, _-_}
 use native.Mathlib.Numerals.{add-one}
@@ -27,19 +32,21 @@ abbrev μ-loop : tie.MeasureT-loop
 past-blanks : (c : tie.After-known-told Inv-loop μ-loop) → let a = c .before .before .before .before .before .before .before .args in let l = c .before .before .before .before .before .loop in Walk passings (a .s .now) (ofRead passings (readAt (parts (a .k) 0 15) (a .s .now) (a .at))) (onePart (l .left - 1) (l .i) (l .room)) (c .before .closed .given .0 .0)
 past-blanks c = part-next _ _ _ (c .before .before .before .before .before .loop .inv .1) (c .before .before .before .before .loop-test .taken) (c .before .before .before .closing-before .ensures) (c .before .closed .given .1)
 
--- the mark of that part, and past it
+-- the mark that was read in the part is the field of the file at the place of the part
 mark-read : (c : tie.After-known-told2 Inv-loop μ-loop) → let l = c .before .before .before .before .before .before .before .before .before .before .loop in fieldAt (digits 2) (markRules (l .room) (l .left - 1)) (c .before .before .before .before .before .before .before .before .before .before .before .before .args .s .now) (c .before .before .before .before .before .before .closed .given .0 .0) ≡ has (c .before .m .given .0 .0)
 mark-read c = let l = c .before .before .before .before .before .before .before .before .before .before .loop in sym (mark-there _ _ _ (c .before .before .before .before .part-at .ensures) (markRules (l .room) (l .left - 1))) ∙ number-is 0 2 _ (c .before .before .before .mark-in .ensures) (c .before .m .given .1) .0
 
+-- past the mark of a part
 past-mark : (c : tie.After-known-told2 Inv-loop μ-loop) → Next (past-blanks (c .before .before .before .before .before)) (c .before .m .given .0 .0) (c .before .before .before .before .before .before .closed .given .0 .0 + 2)
 past-mark c = past-ruled (past-blanks (c .before .before .before .before .before)) (mark-read c, refl)
 
--- the text of that part, and past it
+-- the text that was read in the part is the field of the file behind the mark
 words-read : (c : tie.After-enum-told3 Inv-loop μ-loop) → (v : Value text27) × (lookAt text27 (c .before .before .before .before .before .before .before .before .before .before .before .before .before .before .before .args .s .now) (c .before .before .before .before .before .before .before .before .before .closed .given .0 .0 + 2) ≡ has v)
 words-read c =
     let t = passed-to 2 29 _ (c .before .before .words-in .ensures) (c .enum-told3 .given .1) in
     (t .0, sym (words-there _ _ _ (c .before .before .before .before .before .before .before .part-at .ensures)) ∙ t .1)
 
+-- past the text of a part
 past-words : (c : tie.After-enum-told3 Inv-loop μ-loop) → Next (past-mark (c .before .before .before)) (words-read c .0) (c .before .before .before .before .before .before .before .before .before .closed .given .0 .0 + 2 + 27)
 past-words c = past (past-mark (c .before .before .before)) (words-read c .1, refl)
 

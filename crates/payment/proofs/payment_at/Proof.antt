@@ -1,4 +1,9 @@
 -- payment::payment_at meets its contract: a walk through its four stretches and its parts.
+-- `past0` to `past4` are the `Walk` behind each stretch: the place that was come to, and that the answer owed is what the rest of the payment
+-- from there on gives (`behindReceiver` to `behindCount`). A stretch that was read takes it on with what it says (`past-part`; `received`,
+-- `paid`, `named`), and the refusal of one that was not is the answer owed (`stopped-part`). At the end the parts complete the payment, and the
+-- sums of the answers are those that the payment leads to (`sums-are`); what the calls require and the cases of each answer are by
+-- `search needs`.
 -- Assumes nothing.
 use Prim.Native.Nat.{ℕ}
 use mathlib.Core.List.{List}
@@ -19,24 +24,27 @@ use Rattle.payment.proofs.Laws.{behindAmount, behindCount, behindNames,
 use Rattle.payment.proofs.payment_at.Statement.{statement}
 use Rattle.payment.proofs.payment_at.Tie as tie
 
--- the whole payment, its first two stretches, and what is behind the first
+-- the form of a payment behind its length
 abbrev tree : tie.Start → Form Name Payment
 tree c = payment (lettersOf (c .args .kind)) (totalsOf 0 (c .args .sums)) (c .args .l)
 
+-- the first stretch, C2 to C7b
 abbrev first : tie.Start → Form Name Receiver
 first c = receiver (lettersOf (c .args .kind)) (c .args .sums .accounts .0) (c .args .sums .banks .0)
 
+-- the second stretch, C8 to C12
 abbrev second : tie.Start → Form Name Amount
 second c = amount (c .args .sums .cents .0)
 
+-- what is left of a payment behind the first stretch
 abbrev behindFirst : tie.Start → Receiver → Form Name Payment
 behindFirst c = behindReceiver (c .args .sums .cents .0) (c .args .l)
 
--- the walk with what is behind a stretch, at a place
+-- the walk has come to place p, and m is left of the payment
 abbrev At : tie.Start → Form Name Payment → ℕ → Type 0
 At c m p = Walk (paymentsOn (c .args .sums)) (c .args .s .now) (ofRead (paymentsOn (c .args .sums)) (readAt (tree c) (c .args .s .now) (c .args .p))) m p
 
--- back to the stretch before, and to the start
+-- from behind a stretch back to behind the one before it
 abbrev one : tie.After-known-told2 → tie.After-known-told
 one c = c .before .before .before .before
 
@@ -46,6 +54,7 @@ two c = c .before .before .before .before
 abbrev three : tie.After-known-told4 → tie.After-known-told3
 three c = c .before .before .before .before
 
+-- from behind the first stretch back to the start
 abbrev begun : tie.After-known-told → tie.Start
 begun c = c .before .before .before .before .before .before .before .before
 
@@ -82,10 +91,11 @@ past4 c =
     past-part (partCount (begun (one d) .args .l)) (behindCount (received (one d)) (paid d) (named (three c))) (past3 (three c))
     (number-form _ (c .before .before .before .part-count-at .ensures) (c .before .count .given .1))
 
--- the parts, and the payment that they complete
+-- the form of the parts, as many as C18 tells
 abbrev partsOf : tie.After-known-told4 → Form Name (List Part)
 partsOf c = parts (c .before .count .given .0 .0) 0 15
 
+-- the payment that the parts complete
 abbrev completed : tie.After-known-told4 → List Part → Form Name Payment
 completed c ps = ret (joined (received (one (two (three c)))) (paid (two (three c))) (named (three c)) ps)
 

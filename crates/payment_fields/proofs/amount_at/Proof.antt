@@ -1,4 +1,8 @@
 -- payment_fields::amount_at meets its contract: a walk through C8 to C12.
+-- `past0` to `past4` are the `Walk` behind each field: the place that was come to, and that the answer owed is what the fields from there on
+-- give. A field with a content takes it on (`pass`, `past-ruled`), and the refusal of one without is the answer owed (`stop`, `stop-ruled`). The
+-- answer to C12 is that of the whole stretch, with the same sum of cents (`last-ruled`); what the calls require and the cases of each answer are
+-- by `search needs`.
 -- Assumes nothing.
 use mathlib.Core.Path.{_∙_, refl}
 use borrow.Author.Needs.{needs}

@@ -1,4 +1,8 @@
 -- payment_fields::names_at meets its contract: a walk through C13 to C16.
+-- `past0` to `past4` are the `Walk` behind each field: the place that was come to, and that the answer owed is what the fields from there on
+-- give. Nothing is kept of these fields, so each answer gives a place or is handed on as it is: a field with a content takes the walk on
+-- (`pass`, `pass-ruled`), and the refusal of one without is the answer owed (`pass-stop`, `pass-ruled-stop`). The answer to C16 is that of the
+-- whole stretch (`last`); what the calls require and the cases of each answer are by `search needs`.
 -- Assumes nothing.
 use mathlib.Core.Path.{_∙_, refl}
 use borrow.Author.Needs.{needs}

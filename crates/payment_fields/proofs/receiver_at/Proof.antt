@@ -1,4 +1,8 @@
 -- payment_fields::receiver_at meets its contract: a walk through C2 to C7b.
+-- `past0` to `past7` are the `Walk` behind each field: the place that was come to, and that the answer owed is what the fields from there on
+-- give. A field with a content takes it on (`pass`, `past`, `past-ruled`), and the refusal of one without is the answer owed (`stop`,
+-- `stop-ruled`); what the calls require and the cases of each answer are by `search needs`. C4 and C5 answer with the sum that each leads to:
+-- `bank-codes-is` and `accounts-is` give the walk the number, and the last way out the two sums.
 -- Assumes nothing.
 use borrow.Author.Needs.{needs}
 use Rattle.form.specs.Place.{readAt}

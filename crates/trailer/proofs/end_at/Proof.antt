@@ -1,4 +1,9 @@
 -- trailer::end_at meets its contract: a walk through the fields of E.
+-- `past0` to `past7` are the `Walk` behind each field: the place that was come to, and that the answer owed is what the fields from there on
+-- give. Nothing is kept of these fields, so each answer gives a place or is handed on as it is: a field with a content takes the walk on
+-- (`pass`, `pass-ruled`), and the refusal of one without is the answer owed (`pass-stop`, `pass-ruled-stop`). The figures are held against what
+-- was counted in `figure_at`, whose answer has the field's rule in it; the answer to E9 is that of the whole record (`last`), and what the calls
+-- require and the cases of each answer are by `search needs`.
 -- Assumes nothing.
 use mathlib.Core.Path.{_∙_, refl}
 use borrow.Author.Needs.{needs}

@@ -1,6 +1,7 @@
 -- view::hand meets its contract: `locate` says where the text stands in the view's file, and what `stretch` then gives is the text.
+-- A walk of its MIR. All that it knows of `locate` and `stretch` is that each meets its contract, and of a spot that is found that it lies
+-- within the file. A view is Copy: for each call what its file owns is had once more.
 -- Assumes nothing.
--- A walk of its MIR. All that it knows of `locate` and `stretch` is that each meets its contract, and of a spot that is found that it lies within the file. A view is Copy: for each call what its file owns is had once more.
 use mathlib.Core.Path.{_≡_, refl, subst, sym}
 use Prim.Native.Nat.{ℕ, _<_, _^_}
 use mathlib.Core.List.{List, [], _∷_}

@@ -1,6 +1,8 @@
--- view::make meets its contract: `find` says where the payment begins, and what `stretch` then gives, up to the spot's end, is the file of the view.
+-- view::make meets its contract: `find` says where the payment begins, and what `stretch` then gives, up to the spot's end, is the file of the
+-- view.
+-- A walk of its MIR. All that it knows of `find` and `stretch` is that each meets its contract, and of a spot that is found that it lies within
+-- the file. A `&[u8]` is Copy: for each call what the file owns is had once more.
 -- Assumes nothing.
--- A walk of its MIR. All that it knows of `find` and `stretch` is that each meets its contract, and of a spot that is found that it lies within the file. A `&[u8]` is Copy: for each call what the file owns is had once more.
 use mathlib.Core.Path.{_≡_, refl, subst, sym}
 use Prim.Native.Nat.{ℕ, _<_, _^_}
 use mathlib.Core.List.{List, [], _∷_}

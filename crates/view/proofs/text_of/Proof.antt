@@ -1,6 +1,7 @@
--- view::text_of meets its contract: the bytes of the view that `make` gives are a stretch of the file itself, and so is the text that `hand` gives out of them.
--- Assumes nothing.
+-- view::text_of meets its contract: the bytes of the view that `make` gives are a stretch of the file itself, and so is the text that `hand`
+-- gives out of them.
 -- A walk of its MIR. All that it knows of `make` and `hand` is that each meets its contract.
+-- Assumes nothing.
 use mathlib.Core.Path.{refl}
 use Prim.Native.Nat.{ℕ, _<_, _^_}
 use mathlib.Core.List.{List, [], _∷_}
@@ -52,7 +53,7 @@ use Rattle.view.proofs.text_of.Statement as stated
 use Rattle.view.proofs.text_of.Code as code
 
 module _ {M : Type 1} (𝓤 : URA M) (H : Heap 𝓤) (A : Atoms 𝓤) (W : Given 𝓤 H A) (mem : Memory → SProp 𝓤) (run : Routine → Fun 𝓤) (κ : Lft) (q : Share) (s : RefT (List ℕ)) (n : ℕ) (w : Wanted) (n-fits : n < 2 ^ 64) (is-w : Is E.the-row w (E′.lowered w ∷ [])) where
-  -- what its contract binds
+  -- what the contract of `text_of` binds
   abbrev here : Ends 𝓤 H A W self.ended (self.clauses 𝓤 H A mem run) .Ghost
   here = (((κ, tt), (q, tt), tt, (s, (n, (w, tt))), (slice s ∷ [], (vint w64 n ∷ [], (E′.lowered w ∷ [], tt)))), tt)
 

@@ -1,6 +1,9 @@
--- view::verdict_of meets its contract: `first_of` takes the first refusal of the verdicts that `make` and `hand` give, and those are the ones that `verdictFor` names.
+-- view::verdict_of meets its contract: `first_of` takes the first refusal of the verdicts that `make` and `hand` give, and those are the ones
+-- that `verdictFor` names (`verdict-law`).
+-- A walk of its MIR. All that it knows of `make`, `hand` and `first_of` is that each meets its contract. What the file owns is had once more for
+-- `make`, what the view owns once more for `hand`, since both are Copy; `first_of` takes plain data alone, so that what it asks is had for
+-- nothing.
 -- Assumes nothing.
--- A walk of its MIR. All that it knows of `make`, `hand` and `first_of` is that each meets its contract.
 use mathlib.Core.Path.{_≡_, refl, _∙_}
 use Prim.Native.Nat.{ℕ, _<_, _^_}
 use mathlib.Core.List.{List, [], _∷_}
@@ -59,7 +62,7 @@ use Rattle.view.proofs.verdict_of.Statement as stated
 use Rattle.view.proofs.verdict_of.Code as code
 
 module _ {M : Type 1} (𝓤 : URA M) (H : Heap 𝓤) (A : Atoms 𝓤) (W : Given 𝓤 H A) (mem : Memory → SProp 𝓤) (run : Routine → Fun 𝓤) (κ : Lft) (q : Share) (s : RefT (List ℕ)) (n : ℕ) (w : Wanted) (n-fits : n < 2 ^ 64) (is-w : Is E.the-row w (E′.lowered w ∷ [])) where
-  -- what its contract binds
+  -- what the contract of `verdict_of` binds
   abbrev here : Ends 𝓤 H A W self.ended (self.clauses 𝓤 H A mem run) .Ghost
   here = (((κ, tt), (q, tt), tt, (s, (n, (w, tt))), (slice s ∷ [], (vint w64 n ∷ [], (E′.lowered w ∷ [], tt)))), tt)
 

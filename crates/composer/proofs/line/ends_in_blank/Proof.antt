@@ -1,4 +1,4 @@
--- composer::line::ends_in_blank meets its contract: its last byte tells.
+-- composer::line::ends_in_blank meets its contract: the last byte tells.
 -- Assumes nothing.
 use borrow.Author.Needs.{needs}
 use native.Mathlib.Omega.{arith}

@@ -1,4 +1,4 @@
--- composer::line::field_end meets its contract: as far as from the place looked at, and the way to it, so far it is from q.
+-- composer::line::field_end meets its contract: from i on the next tab stands at the same place as from q on, as long as none was passed.
 -- Assumes nothing.
 use Prim.Native.Nat.{_+_, _-_}
 use native.Mathlib.Numerals.{add-one}

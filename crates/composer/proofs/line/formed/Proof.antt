@@ -1,4 +1,8 @@
 -- composer::line::formed meets its contract: the number of fields, the letter, and then field by field.
+-- The loop keeps `Forming`: field i stands at q, and the line has its form exactly where the fields from i on have theirs. In each turn field i
+-- either has not its form, and so the line has not (`form-not`), or it is passed (`form-more`), or it was the last (`form-last`); ahead of the
+-- loop the line is refused for its count or its letter (`other-count`, `other-letter`). The slice lies in the line by `stand-ends`, and what the
+-- callees require is by `search needs`.
 -- Assumes nothing.
 use Prim.Native.Nat.{_-_}
 use native.Mathlib.Omega.{arith}

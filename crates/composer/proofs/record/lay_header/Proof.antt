@@ -1,4 +1,4 @@
--- composer::record::lay_header meets its contract: what is its own, then the fields of the line.
+-- composer::record::lay_header meets its contract: what A has of its own, then the fields of the line.
 -- Assumes nothing.
 use mathlib.Core.Path.{refl}
 use borrow.Author.Needs.{needs}

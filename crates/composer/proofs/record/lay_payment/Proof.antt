@@ -1,4 +1,4 @@
--- composer::record::lay_payment meets its contract: what is its own, then the numbers of the line, then its other fields.
+-- composer::record::lay_payment meets its contract: what C has of its own, then the numbers of the line, then its other fields.
 -- Assumes nothing.
 use borrow.Author.Needs.{needs}
 use Rattle.composer.proofs.PutLaws.{payment-first, numbers-inside, numbers-put}

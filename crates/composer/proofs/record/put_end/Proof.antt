@@ -39,7 +39,7 @@ put-number-requires-4 c κs = search needs
 put-number-requires-5 : tie.Need-put-number-requires-5
 put-number-requires-5 c κs = search needs
 
--- where E's letter is written
+-- the point where E's letter is written, seen from the end
 abbrev lettered : tie.After-slice-known9 → tie.After-put2
 lettered c =
     let h = c .before .before .before .before .before .before .before .before .before .before in

@@ -1,4 +1,7 @@
 -- composer::record::put_numbers meets its contract: each number stands where those ahead of it end, and is put where it stands in the record.
+-- There is no loop: in `returns` each of the nine calls makes the record with one number more (`put-number` of PutLaws), from the record that
+-- has what is its own to the one with all numbers. What the calls require, and that the slices lie in the line, is by `search needs`, since the
+-- line is required to reach to its texts; for the last three numbers that fact is handed over.
 -- Assumes nothing.
 use native.Mathlib.Omega.{arith}
 use lib.ListN.{take}
@@ -8,7 +11,7 @@ use Rattle.composer.proofs.PutLaws.{put-long, put-number}
 use Rattle.composer.proofs.record.put_numbers.Statement.{statement}
 use Rattle.composer.proofs.record.put_numbers.Tie as tie
 
--- where the sixth number is put
+-- the call's start, seen from where the sixth number is put
 abbrev begun : tie.After-put6 → tie.Start
 begun c =
     let h = c .before .before .before .before .before .before .before .before .before .before .before .before .before .before .before in

@@ -1,4 +1,4 @@
--- line_reader::reaching::reach meets its contract: as far as from the place looked at, and the way to it, so far it is from p.
+-- line_reader::reaching::reach meets its contract: from i on the first z stands at the same place as from p on, as long as none was passed.
 -- Assumes nothing.
 use Prim.Native.Nat.{_+_, _-_, _≤_}
 use native.Mathlib.Numerals.{add-one}
