@@ -9,7 +9,7 @@ enum number file_kind(const uint8_t *a3, struct kind *kind) {
     return named ? ACCEPTED : NOT_FIXED;
 }
 
-// Zero in a customer's file.
+// A5 is zero in a customer's file.
 enum number sending_bank(const uint8_t *a5, struct kind kind) {
     uint64_t code;
     if (digits(a5, 8, &code) != ACCEPTED)
@@ -35,7 +35,7 @@ static unsigned day_number(unsigned day, unsigned month, unsigned year) {
     return number;
 }
 
-// DDMMYY.
+// A7 is DDMMYY.
 enum number creation_day(const uint8_t *a7, unsigned *day) {
     uint64_t date;
     if (digits(a7, 6, &date) != ACCEPTED)
@@ -45,7 +45,7 @@ enum number creation_day(const uint8_t *a7, unsigned *day) {
     return *day == 0 ? NO_DATE : ACCEPTED;
 }
 
-// DDMMYYYY, on the day of creation or up to 15 days later.
+// A11b is DDMMYYYY, on the day of creation or up to 15 days later.
 enum number execution_day(const uint8_t *a11b, unsigned creation_day) {
     uint64_t date;
     if (digits(a11b, 8, &date) != ACCEPTED)

@@ -4,8 +4,8 @@
 
 #include "rules.h"
 
-// From the line at `line` into the output; each tells where the next line begins, and moves the
-// output behind its record.
+// Each writes the record of the line at `line` into the output, tells where the next line begins,
+// and moves the output behind the record.
 const uint8_t *write_header(const uint8_t *line, uint8_t **output);
 const uint8_t *write_payment(const uint8_t *line, uint8_t **output);
 

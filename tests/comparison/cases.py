@@ -10,7 +10,7 @@ from .case_m import CASE_M
 from .document import Document, Part
 from .expected import line
 from .layout import TEXT_WIDTH
-from .requests import NAME_OF_CALL, TEXT_OF_FIELD, VIEW, Request
+from .requests import LIST, NAME_OF_CALL, TEXT_OF_FIELD, VIEW, Request
 from .sides import PROGRAMS, Side
 
 ESCAPES = {"\\t": "\t", "\\n": "\n", "\\r": "\r", "\\s": " "}
@@ -108,7 +108,7 @@ def is_met(case: Case, side: Side) -> bool:
     if case.call in PROGRAMS:
         return side.printed(case.call, [data]) == printed_by_program(case)
     request = request_of(case.call, data)
-    return side.printed("dtprobe", [request.wire()]) == answer_of_view(request.call, case.answer)
+    return side.printed("dtprobe", [request.wire()]) == answer_to(request, case.answer)
 
 
 def printed_by_program(case: Case) -> bytes:
@@ -118,8 +118,10 @@ def printed_by_program(case: Case) -> bytes:
 
 
 def request_of(call: str, data: bytes) -> Request:
-    """The request of a row about the view: `find 0`, `hand 128 C14a`, `view 0 part 1`."""
+    """The request of a row about a call: `list 192`, `find 0`, `hand 128 C14a`, `view 0 part 1`."""
     match call.split():
+        case ["list", room]:
+            return Request(LIST, data, (int(room),), b"." * int(room))
         case ["find" as name, n]:
             numbers = (int(n),)
         case ["hand" | "view" as name, which, "part", part]:
@@ -131,7 +133,7 @@ def request_of(call: str, data: bytes) -> Request:
     return Request(CALL_OF_NAME[name], data, numbers)
 
 
-def answer_of_view(call: bytes, answer: str) -> bytes:
+def answer_to(request: Request, answer: str) -> bytes:
     """The answer as dtprobe prints it: `from 128 to 512`, `text MEIER KG` or a number and a place."""
     match answer.split(maxsplit=1):
         case ["text", text]:
@@ -141,6 +143,8 @@ def answer_of_view(call: bytes, answer: str) -> bytes:
             return line(0, 0, int(start), int(end))
         case [number, place]:
             figures = int(number), int(place), 0
-            return line(*figures) + b"\n" if call == VIEW else line(*figures, 0)
+            if request.call in (LIST, VIEW):
+                return line(*figures) + request.lent + b"\n"
+            return line(*figures, 0)
         case _:
             raise ValueError(f"no such answer: {answer}")

@@ -48,7 +48,7 @@ FIRST_FAMILIES: tuple[Callable[[Random], Iterator[Input]], ...] = (
 )
 
 
-# A run has at least these, so that nothing above is left out.
+# A run has at least so many families: the first ones, and all those of small documents and of parts.
 NEEDED_FAMILIES = len(FIRST_FAMILIES) + SMALL_FAMILIES + PARTS_FAMILIES
 
 

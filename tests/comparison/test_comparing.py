@@ -204,6 +204,7 @@ class TestCases(unittest.TestCase):
         self.assertFalse(self.is_met("view 0 C16", "text \\s", blanks.replace(b"27", b"0")))
 
     def test_refusals(self) -> None:
+        self.assertTrue(self.is_met("list 3", "16 0", b"16\t0\t0\n...\n"))
         self.assertTrue(self.is_met("find 1", "19 0", b"19\t0\t0\t0\n"))
         self.assertTrue(self.is_met("hand 127 C15", "19 0", b"19\t0\t0\t0\n"))
         self.assertTrue(self.is_met("view 0 part 2", "19 0", b"19\t0\t0\n\n"))
@@ -212,6 +213,7 @@ class TestCases(unittest.TestCase):
 
     def test_what_a_row_asks_for(self) -> None:
         asked = {
+            "list 3": b"P 000002 000003 000000 000000 000000\n.....",
             "find 7": b"F 000002 000007 000000 000000 000000\n..",
             "hand 128 C15": b"H 000002 000128 000015 000000 000000\n..",
             "view 0 part 16": b"V 000002 000000 000000 000016 000000\n..",

@@ -11,8 +11,8 @@ from .requests import FIND, HAND, HIGHEST, TEXT_OF_FIELD, VIEW, Request, asked_t
 
 # The payments of a valid file that are asked for: the first, the last and at most so many others.
 OTHER_PAYMENTS = 4
-# For each of them, how many texts: at its start, at starts of no payment, by its number, by numbers that no
-# payment has.
+# How many texts are asked for beside a payment: at its start, at starts of no payment, by its number, by numbers
+# that no payment has.
 AT_START, AT_OTHER_STARTS, BY_NUMBER, BY_OTHER_NUMBERS = 5, 3, 4, 1
 # A third of the hand-outs are of the three texts that have a field of their own; all else means a part.
 FIELDS = (*TEXT_OF_FIELD, 0, 1, 13, 17, 114, HIGHEST)

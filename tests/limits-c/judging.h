@@ -33,11 +33,12 @@ struct answer accepted(const struct written_file *file);
 // The answer to a file that is refused.
 struct answer refused(uint64_t number, uint64_t place);
 
-// Each is one test. The time that it prints is that of the call.
+// One test of dtaus_check. The time that is printed is that of the call.
 void expect_check(const char *shows, const struct written_file *file, struct answer expected);
 
-// After it the columns hold the payments that the rule tells, as many as the answer counts, and
-// else what they held before.
+// One test of dtaus_load. The time that is printed is that of the call. After the call the columns
+// must hold the payments that the rule tells, as many as the answer counts, and else what they held
+// before.
 void expect_load(const char *shows, const struct written_file *file, payment_rule rule,
                  const struct columns *columns, struct answer expected);
 

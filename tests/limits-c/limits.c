@@ -43,7 +43,7 @@ static struct payment hundred_and(uint64_t i, uint64_t cents) {
 // The 101st payment brings the total to its top, 9,999,999,999,999.
 static struct payment to_the_top(uint64_t i) { return hundred_and(i, 99); }
 
-// The 101st payment takes the total one cent above it.
+// The 101st payment takes the total one cent above its top.
 static struct payment above_the_top(uint64_t i) { return hundred_and(i, 100); }
 
 static void test_count(struct written_file *file, const struct columns *columns) {

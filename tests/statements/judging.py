@@ -42,10 +42,3 @@ def faults_of_result(function: Function, tables: Tables, root: Path) -> list[str
     if law is None:
         return [f"no equation gives its result, and {DOCUMENT} has no law for it"]
     return [] if law.stands(root) else [f"the law {law.name} does not stand in {law.file}"]
-
-
-def report(judged: dict[str, list[str]]) -> list[str]:
-    """A line for each fault, then how many have none and how many have some."""
-    lines = [f"{path}: {fault}" for path, faults in judged.items() for fault in faults]
-    failed = sum(1 for faults in judged.values() if faults)
-    return [*lines, f"{len(judged) - failed} passed, {failed} failed"]

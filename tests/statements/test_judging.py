@@ -4,7 +4,9 @@ import tempfile
 import unittest
 from pathlib import Path
 
-from .judging import judge, report
+from reports import report
+
+from .judging import judge
 
 RIGHT = """
 // pub fn in_a_comment(n: u64) -> u64

@@ -1,5 +1,8 @@
--- What the statements of the six calls come to: each admits one answer; a result without room is 16, and nothing is written; else the result begins
--- with the figures and is behind them as it was, and the statement is that of the call beneath, with all that follows from it.
+-- What the statements of the six calls that find something come to: each admits one answer; a result without room is 16, and nothing is written;
+-- a result with room begins with the figures and is behind them as it was, and the statement is that of the call beneath.
+-- Each statement is an equation with how the call ends, and that is decided by the room in the result. Without room it is the call's own law
+-- of a short result; with room the definition falls back to that of the call beneath (`written-is`, `placed-is`), so that all that is proved of
+-- that call holds.
 use Prim.Native.Nat.{ℕ, _≤_, _<_}
 use mathlib.Core.Path.{_≡_, refl, sym, ap, _∙_}
 use mathlib.Core.Logic.{_≢_}
@@ -56,7 +59,7 @@ one-loaded file c4 c5 c12 start result r s a₁ a₂ a₃ a₄ a b₁ b₂ b₃ 
 
 -- ---- the result
 
--- it begins with the figures, and is behind them as it was
+-- a result begins with the figures, and is behind them as it was
 pub record Begins (figures result new : List ℕ) : Type 0 where
   pub first : take (length figures) new ≡ figures
   pub behind : drop (length figures) new ≡ drop (length figures) result
@@ -70,11 +73,11 @@ module _ (result : List ℕ) (r : ℕ) (new : List ℕ) where
   -- ---- a check
 
   module _ (file : List ℕ) (says : SaysOutcome (checking result file) result r new) where
-    -- a result without room
+    -- a result without room is as it was, and 16 is returned
     pub check-no-room : length result < 6 → (r ≡ 16) × (new ≡ result)
     check-no-room h = one-outcome _ result r 16 new result says (check-short result file h)
 
-    -- any other gets the figures of the answer to the file
+    -- a result with room gets the figures of the answer to the file
     pub check-is : 6 ≤ length result → let o = outcome (answer file) in (r ≡ o .verdict .number) × Begins (outcomeFigures o) result new
     unfolding checking
     check-is h =

@@ -1,5 +1,5 @@
-// The library for C: each call on numbers and lent slices alone. A slice is a pointer and then the number of its entries. What a call finds it tells
-// in a lent slice of numbers, the result; the number that it returns is the result's first, or 16 where the result is too short.
+// The library for C: each call on numbers and lent slices alone. A slice is a pointer and then the number of its entries. What a call finds
+// it tells in a lent slice of numbers, the result; the number that it returns is the result's first, or 16 where the result is too short.
 ghost use mathlib.Core.Path.{_≡_};
 ghost use Prim.Native.Nat.{_≤_};
 ghost use mathlib.Core.List.{[], _∷_};
@@ -75,9 +75,10 @@ fn text_named(wanted: usize) -> Wanted
     Wanted::Part(wanted - 2)
 }
 
+// As the header's DTAUS_VERSION.
 const VERSION: u32 = 1;
 
-// The version of the header that belongs to this archive.
+// The version of the header that belongs to the archive.
 #[no_mangle]
 pub extern "C" fn dtaus_version() -> u32
     ensures { λ r. ⌜ r ≡ version ⌝ }

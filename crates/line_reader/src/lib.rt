@@ -246,20 +246,20 @@ fn names_at(l: &[u8], q: usize) -> TextSeen
     ensures { λ r. ⌜ Names (now (l .entry)) q r ⌝ }
 {
     let c14a = text_at(l, q);
-    let TextSeen::To(p15) = c14a else {
+    let TextSeen::To(tab_of_c15) = c14a else {
         return TextSeen::No;
     };
-    if p15 - q < 2 {
+    if tab_of_c15 - q < 2 {
         return TextSeen::No;
     }
-    let c15 = text_at(l, p15);
-    let TextSeen::To(p16) = c15 else {
+    let c15 = text_at(l, tab_of_c15);
+    let TextSeen::To(tab_of_c16) = c15 else {
         return TextSeen::No;
     };
-    if p16 - p15 < 2 {
+    if tab_of_c16 - tab_of_c15 < 2 {
         return TextSeen::No;
     }
-    text_at(l, p16)
+    text_at(l, tab_of_c16)
 }
 
 // A part, the tab of its mark at q, where so many parts may still stand, this one among them.

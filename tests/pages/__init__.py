@@ -1,0 +1,1 @@
+"""The documents of the repository, and whether they keep their form."""
