@@ -4,9 +4,8 @@
 -- (`ends-fill`, `ends-told`), or a payment comes, and what is asked of it and of the others is parted or joined (`good-first`, `good-others`,
 -- `good-both`). The whole file is A, and then the payments after none.
 use Prim.Native.Nat.{ℕ, zero, suc, _+_, _^_, _≤_, _<_}
-use native.Mathlib.Nat.{add-zero, zero-add}
 use native.Mathlib.Omega.{arith}
-use mathlib.Core.Path.{_≡_, refl, _∙_}
+use mathlib.Core.Path.{_≡_, refl, sym, ap, _∙_}
 use mathlib.Core.Bool.{not}
 use mathlib.Core.List.{List, [], _∷_, _++_, append-assoc, append-nil}
 use lib.ListN.{length}
@@ -15,7 +14,7 @@ use borrow.Author.Tests.{ne-eqb}
 use Rattle.form.specs.Kind.{numeral}
 use Rattle.form.specs.Form.{Holds, Form, ret, fork, _>>=_, Filled, value, bytes}
 use Rattle.form.proofs.RulesLaws.{Filling, Told, Says, then-fill, then-told, fork-no, fork-see}
-use Rattle.document.specs.Values.{Header, Payment, Document, Totals, noTotals, adding, totals}
+use Rattle.document.specs.Values.{Header, Payment, Document, Totals, noTotals, adding, totals, together}
 use Rattle.document.specs.Rules.{All, mostPayments, mostCents, sumLimit, LegalHeader, LegalPayment, Legal}
 use Rattle.diskette.specs.Writing.{lengthOf, writeHeader, writeBody, writePayments, writeFigures, writeEnd, write}
 use Rattle.diskette.specs.Fields.{Name, header, payment, end, firstField, payments, behindHeader, document}
@@ -23,6 +22,7 @@ use Rattle.diskette.proofs.HeaderSays.{header-says}
 use Rattle.diskette.proofs.PaymentSays.{GoodPayment, few-parts, payment-says}
 use Rattle.diskette.proofs.EndSays.{Within, end-fill, end-told, end-begins, payment-begins, end-some, must-end}
 use Rattle.document.proofs.FieldLaws.{at-least-one}
+use Rattle.document.proofs.SumLaws.{together-none, together-nothing, together-more}
 
 -- ---- the payments still to come, after payments that come to t
 
@@ -34,36 +34,21 @@ pub record GoodFrom (left : ℕ) (kind : List ℕ) (t : Totals) (ps : List Payme
   pub bankCodes : t .bankCodes + totals ps .bankCodes < sumLimit
   pub cents : t .cents + totals ps .cents ≤ mostCents
 
--- what payments that come to t come to together with others
-abbrev after : Totals → List Payment → Totals
-after t ps =
-    let u = totals ps in
-    record {
-      count = t .count + u .count;
-      accounts = t .accounts + u .accounts;
-      bankCodes = t .bankCodes + u .bankCodes;
-      cents = t .cents + u .cents;
-    }
-
+-- how the payments that come after payments which come to t are written, and E behind them
 abbrev rest : Totals → List Payment → List ℕ
-rest t ps = writePayments ps ++ writeEnd (after t ps)
+rest t ps = writePayments ps ++ writeEnd (together t (totals ps))
 
 rest-none : (t : Totals) (x : List ℕ) → x ≡ writeFigures t → numeral 4 128 ++ x ≡ rest t []
-rest-none t x e = rw (e, add-zero (t .count), add-zero (t .accounts), add-zero (t .bankCodes), add-zero (t .cents))
+rest-none t x e = rw e (ap writeEnd (sym (together-nothing t)))
 
 regroup : (a b c d : List ℕ) → a ++ (b ++ ((c ++ d) ++ [])) ≡ ((a ++ b) ++ c) ++ d
 regroup a b c d = simp (append-assoc, append-nil)
 
-add-add : (a x y : ℕ) → a + x + y ≡ a + (x + y)
-add-add a x y = omega arith
-
 rest-more : (t : Totals) (p : Payment) (ps : List Payment) (l : ℕ) (x y : List ℕ) → lengthOf (length (p .parts)) ≡ l → x ≡ writeBody p ++ y
     → y ≡ rest (adding t p) ps ++ [] → numeral 4 l ++ x ≡ rest t (p ∷ ps)
 rest-more t p ps l x y k d e =
-    let n : t .count + 1 + length ps ≡ t .count + suc (length ps) = omega arith in
-    let u = totals ps in
-    rw (← k, d, e, n, add-add (t .accounts) (p .account) (u .accounts), add-add (t .bankCodes) (p .bankCode) (u .bankCodes), add-add (t .cents) (p .cents) (u .cents))
-    (regroup (numeral 4 (lengthOf (length (p .parts)))) (writeBody p) (writePayments ps) _)
+    rw (← k, d, e) (regroup (numeral 4 (lengthOf (length (p .parts)))) (writeBody p) (writePayments ps) _)
+    ∙ ap (λ (u : Totals). writePayments (p ∷ ps) ++ writeEnd u) (sym (together-more t p ps))
 
 none-good : (left : ℕ) (kind : List ℕ) (t : Totals) → 1 ≤ t .count → Within t → GoodFrom left kind t []
 none-good left kind t h w =
@@ -201,8 +186,8 @@ payments-says (suc left) kind t h w = some-says left kind t h w (λ p i. payment
 
 rest-all : (ps : List Payment) → rest noTotals ps ++ [] ≡ writePayments ps ++ (writeEnd (totals ps) ++ [])
 rest-all ps =
-    let u = totals ps in
-    rw (append-assoc (writePayments ps), zero-add (u .count), zero-add (u .accounts), zero-add (u .bankCodes), zero-add (u .cents))
+    append-assoc (writePayments ps) (writeEnd (together noTotals (totals ps))) []
+    ∙ ap (λ (u : Totals). writePayments ps ++ (writeEnd u ++ [])) (together-none (totals ps))
 
 whole : (h : Header) (ps : List Payment) (x y : List ℕ) → x ≡ writeHeader h ++ y → y ≡ rest noTotals ps ++ [] → x ≡ write (record { header = h; payments = ps })
 whole h ps x y d e = rw (d, e, rest-all ps)
