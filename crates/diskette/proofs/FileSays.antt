@@ -1,11 +1,11 @@
 -- The fields of a whole file say what the rules say: a filled form is a legal document written out, and the other way round.
 -- The proof goes by induction over the payments that can still come, after payments that come to t: `GoodFrom` says what the rules ask of those
 -- that come, and `rest t` is how they and E are written (`payments-says`). At each first field the file ends, with just the totals t in E
--- (`ends-fill`, `ends-told`), or a payment comes, and what is asked of it and of the others is parted or joined (`good-first`, `good-others`,
--- `good-both`). The whole file is A, and then the payments after none.
-use Prim.Native.Nat.{ℕ, zero, suc, _+_, _^_, _≤_, _<_}
+-- (`ends-fill`, `ends-told`), or a payment comes, and what is asked of it and of the others is parted or joined by `GoodLaws`. The whole file
+-- is A, and then the payments after none.
+use Prim.Native.Nat.{ℕ, zero, suc, _+_, _^_, _≤_}
 use native.Mathlib.Omega.{arith}
-use mathlib.Core.Path.{_≡_, refl, sym, ap, _∙_}
+use mathlib.Core.Path.{_≡_, sym, ap, _∙_}
 use mathlib.Core.Bool.{not}
 use mathlib.Core.List.{List, [], _∷_, _++_, append-assoc, append-nil}
 use lib.ListN.{length}
@@ -15,26 +15,18 @@ use Rattle.form.specs.Kind.{numeral}
 use Rattle.form.specs.Form.{Holds, Form, ret, fork, _>>=_, Filled, value, bytes}
 use Rattle.form.proofs.RulesLaws.{Filling, Told, Says, then-fill, then-told, fork-no, fork-see}
 use Rattle.document.specs.Values.{Header, Payment, Document, Totals, noTotals, adding, totals, together}
-use Rattle.document.specs.Rules.{All, mostPayments, mostCents, sumLimit, LegalHeader, LegalPayment, Legal}
+use Rattle.document.specs.Rules.{mostPayments, LegalHeader, Legal}
 use Rattle.diskette.specs.Writing.{lengthOf, writeHeader, writeBody, writePayments, writeFigures, writeEnd, write}
 use Rattle.diskette.specs.Fields.{Name, header, payment, end, firstField, payments, behindHeader, document}
 use Rattle.diskette.proofs.HeaderSays.{header-says}
 use Rattle.diskette.proofs.PaymentSays.{GoodPayment, few-parts, payment-says}
 use Rattle.diskette.proofs.EndSays.{Within, end-fill, end-told, end-begins, payment-begins, end-some, must-end}
-use Rattle.document.proofs.FieldLaws.{at-least-one}
+use Rattle.diskette.proofs.GoodLaws.{GoodFrom, none-good, good-first, good-others, good-both, within-next, below-top, within-none, legal-good, good-legal}
 use Rattle.document.proofs.SumLaws.{together-none, together-nothing, together-more}
 
 -- ---- the payments still to come, after payments that come to t
 
-pub record GoodFrom (left : ℕ) (kind : List ℕ) (t : Totals) (ps : List Payment) : Type 0 where
-  pub legal : All (LegalPayment kind) ps
-  pub some : 1 ≤ t .count + length ps
-  pub count : length ps ≤ left
-  pub accounts : t .accounts + totals ps .accounts < sumLimit
-  pub bankCodes : t .bankCodes + totals ps .bankCodes < sumLimit
-  pub cents : t .cents + totals ps .cents ≤ mostCents
-
--- how the payments that come after payments which come to t are written, and E behind them
+-- how they are written, and E behind them
 abbrev rest : Totals → List Payment → List ℕ
 rest t ps = writePayments ps ++ writeEnd (together t (totals ps))
 
@@ -49,17 +41,6 @@ rest-more : (t : Totals) (p : Payment) (ps : List Payment) (l : ℕ) (x y : List
 rest-more t p ps l x y k d e =
     rw (← k, d, e) (regroup (numeral 4 (lengthOf (length (p .parts)))) (writeBody p) (writePayments ps) _)
     ∙ ap (λ (u : Totals). writePayments (p ∷ ps) ++ writeEnd u) (sym (together-more t p ps))
-
-none-good : (left : ℕ) (kind : List ℕ) (t : Totals) → 1 ≤ t .count → Within t → GoodFrom left kind t []
-none-good left kind t h w =
-    record {
-      legal = tt;
-      some = omega arith;
-      count = omega arith;
-      accounts = omega (arith, w .accounts);
-      bankCodes = omega (arith, w .bankCodes);
-      cents = omega (arith, w .cents);
-    }
 
 -- no payment follows: E is filled in with the totals so far
 ends-fill : (t : Totals) → t .count ≤ mostPayments → Within t → (r : Filled (end t)) × (value (end t) r ≡ []) × (numeral 4 128 ++ bytes (end t) r ≡ rest t [])
@@ -95,39 +76,6 @@ module _ (left : ℕ) (kind : List ℕ) (t : Totals) (h : t .count + suc left �
   abbrev more : ℕ → Unit {0} → Form Name (List Payment)
   more l u = payment kind t l >>= onward
 
-  good-first : (p : Payment) (ps : List Payment) → GoodFrom (suc left) kind t (p ∷ ps) → GoodPayment kind t (lengthOf (length (p .parts))) p
-  good-first p ps g =
-      record { legal = g .legal .0; accounts = omega (arith, g .accounts); bankCodes = omega (arith, g .bankCodes); cents = omega (arith, g .cents); long = refl }
-
-  good-others : (p : Payment) (ps : List Payment) → GoodFrom (suc left) kind t (p ∷ ps) → GoodFrom left kind (adding t p) ps
-  good-others p ps g =
-      record {
-        legal = g .legal .1;
-        some = omega arith;
-        count = omega (arith, g .count);
-        accounts = omega (arith, g .accounts);
-        bankCodes = omega (arith, g .bankCodes);
-        cents = omega (arith, g .cents);
-      }
-
-  good-both : (p : Payment) (ps : List Payment) → LegalPayment kind p → GoodFrom left kind (adding t p) ps → GoodFrom (suc left) kind t (p ∷ ps)
-  good-both p ps l g =
-      record {
-        legal = (l, g .legal);
-        some = omega arith;
-        count = omega (arith, g .count);
-        accounts = omega (arith, g .accounts);
-        bankCodes = omega (arith, g .bankCodes);
-        cents = omega (arith, g .cents);
-      }
-
-  within-next : {l : ℕ} (p : Payment) → GoodPayment kind t l p → Within (adding t p)
-  within-next p g = record { accounts = g .accounts; bankCodes = g .bankCodes; cents = g .cents }
-
-  -- a payment that may come has at least a cent
-  below-top : {l : ℕ} (p : Payment) → LegalPayment kind p → GoodPayment kind t l p → t .cents < mostCents
-  below-top p q g = omega (arith, g .cents, at-least-one (p .cents) (q .C12-some))
-
   -- the payments behind p fill in what follows p
   others-fill : (p : Payment) (ps : List Payment) → Within (adding t p) → GoodFrom left kind (adding t p) ps
       → Filling (onward p) (p ∷ ps) (rest (adding t p) ps ++ [])
@@ -154,8 +102,8 @@ module _ (left : ℕ) (kind : List ℕ) (t : Totals) (h : t .count + suc left �
           → v ≡ value (onward p) s → b ≡ writeBody p ++ bytes (onward p) s
           → Told (GoodFrom (suc left) kind t) (rest t) v (numeral 4 l ++ b)
       others-told l p g s v b x y =
-          let e = then-told (payments left kind (adding t p)) (GoodFrom left kind (adding t p)) (rest (adding t p)) (says p (within-next p g)) (cons p) s in
-          (p ∷ e.0, good-both p e.0 (g .legal) e.1, x ∙ e.3, rest-more t p e.0 l b (bytes (onward p) s) (g .long) y e.4)
+          let e = then-told (payments left kind (adding t p)) (GoodFrom left kind (adding t p)) (rest (adding t p)) (says p (within-next g)) (cons p) s in
+          (p ∷ e.0, good-both left kind t p e.0 (g .legal) e.1, x ∙ e.3, rest-more t p e.0 l b (bytes (onward p) s) (g .long) y e.4)
 
   some-says : Says (payments (suc left) kind t) (GoodFrom (suc left) kind t) (rest t)
   unfolding payments
@@ -166,10 +114,10 @@ module _ (left : ℕ) (kind : List ℕ) (t : Totals) (h : t .count + suc left �
       fill (p ∷ ps) g =
           let i = few-parts kind p (g .legal .0) in
           let l : ℕ = lengthOf (length (p .parts)) in
-          let q = good-first p ps g in
-          let s = others-fill p ps (within-next p q) (good-others p ps g) in
+          let q = good-first left kind t p ps g in
+          let s = others-fill p ps (within-next q) (good-others left kind t p ps g) in
           let f = more-fill l p ps q s.0 s.1 s.2 (rw (ne-eqb l 128 (omega arith)) tt) in
-          let c = payment-begins t (length (p .parts)) i (omega arith) (below-top p (g .legal .0) q) in
+          let c = payment-begins t (length (p .parts)) i (omega arith) (below-top q) in
           (((l, lt→ltb l (10 ^ 4) (omega arith), c), f.0), f.1, f.2)
 
       told : (r : Filled (payments (suc left) kind t)) → Told (GoodFrom (suc left) kind t) (rest t) (value (payments (suc left) kind t) r) (bytes (payments (suc left) kind t) r)
@@ -200,23 +148,14 @@ document-says = record { fill = fill; told = told }
     close h ps = ret (record { header = h; payments = ps })
 
     all : (kind : List ℕ) → Says (payments mostPayments kind noTotals) (GoodFrom mostPayments kind noTotals) (rest noTotals)
-    all kind = payments-says mostPayments kind noTotals (omega arith) (record { accounts = omega arith; bankCodes = omega arith; cents = omega arith })
+    all kind = payments-says mostPayments kind noTotals (omega arith) within-none
 
     fill : (d : Document) → Legal d → Filling document d (write d)
     fill d g =
         let h = d .header in
         let ps = d .payments in
         let kind = h .fileKind in
-        let q : GoodFrom mostPayments kind noTotals ps
-        = record {
-          legal = g .payments;
-          some = omega (arith, g .some);
-          count = g .count;
-          accounts = omega (arith, g .accounts);
-          bankCodes = omega (arith, g .bankCodes);
-          cents = omega (arith, g .cents);
-        } in
-        let t = then-fill (payments mostPayments kind noTotals) (GoodFrom mostPayments kind noTotals) (rest noTotals) (all kind) (close h) ps q tt in
+        let t = then-fill (payments mostPayments kind noTotals) (GoodFrom mostPayments kind noTotals) (rest noTotals) (all kind) (close h) ps (legal-good d g) tt in
         let s = then-fill header LegalHeader writeHeader header-says behindHeader h (g .header) t.0 in
         (s.0, s.1 ∙ t.1, whole h ps (bytes document s.0) (bytes (behindHeader h) t.0) s.2 t.2)
 
@@ -226,17 +165,5 @@ document-says = record { fill = fill; told = told }
         let h = x.0 in
         let kind = h .fileKind in
         let y = then-told (payments mostPayments kind noTotals) (GoodFrom mostPayments kind noTotals) (rest noTotals) (all kind) (close h) x.2 in
-        let g = y.1 in (
-          record { header = h; payments = y.0 },
-          record {
-            header = x.1;
-            payments = g .legal;
-            some = omega (arith, g .some);
-            count = g .count;
-            accounts = omega (arith, g .accounts);
-            bankCodes = omega (arith, g .bankCodes);
-            cents = omega (arith, g .cents);
-          },
-          x.3 ∙ y.3,
-          whole h y.0 (bytes document r) (bytes (behindHeader h) x.2) x.4 y.4,
-        )
+        let d : Document = record { header = h; payments = y.0 } in
+        (d, good-legal d x.1 y.1, x.3 ∙ y.3, whole h y.0 (bytes document r) (bytes (behindHeader h) x.2) x.4 y.4)

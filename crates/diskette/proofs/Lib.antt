@@ -2,6 +2,7 @@ pub mod HeaderSays
 pub mod PartsSays
 pub mod PaymentSays
 pub mod EndSays
+pub mod GoodLaws
 pub mod FileSays
 pub mod LayoutLaws
 pub mod Viability

@@ -1,9 +1,9 @@
 -- The lines of a listing, one after another: the lines of good payments are composed to them, and no other lines are composed.
 -- The first goes by induction over the payments, the second by induction over the lines; both keep what the payments before come to and how many
 -- may still come, which together are the most that there are. One line is the law of `PaymentLaws`, and what is asked of all payments is parted
--- into what is asked of the first and of the others, or joined again (`good-first`, `good-others`, `good-both`). Behind the last line end comes
--- an empty piece, and there at least one payment must have been told.
-use Prim.Native.Nat.{ℕ, suc, _+_, _-_, _≤_}
+-- into what is asked of the first and of the others, or joined again (`GoodLaws` of the diskette). Behind the last line end comes an empty piece,
+-- and there at least one payment must have been told.
+use Prim.Native.Nat.{ℕ, zero, suc, _+_}
 use native.Mathlib.Omega.{arith}
 use mathlib.Core.Path.{_≡_, refl, sym, ap, _∙_, subst}
 use mathlib.Core.List.{List, [], _∷_, _++_}
@@ -14,10 +14,8 @@ use Rattle.verdict.specs.Verdicts.{refusing}
 use Rattle.document.specs.Signs.{ascii}
 use Rattle.document.specs.Values.{Payment, Totals, noTotals, adding}
 use Rattle.document.specs.Rules.{mostPayments}
-use Rattle.diskette.specs.Writing.{lengthOf}
-use Rattle.diskette.proofs.PaymentSays.{GoodPayment}
 use Rattle.diskette.proofs.EndSays.{Within}
-use Rattle.diskette.proofs.FileSays.{GoodFrom}
+use Rattle.diskette.proofs.GoodLaws.{GoodFrom, none-good, good-first, good-others, good-both, within-next}
 use Rattle.listing.specs.Lines.{tab, lineEnd, behindTabs, split, empty}
 use Rattle.listing.specs.Listing.{paymentFields, paymentLines}
 use Rattle.listing.specs.Composing.{made, andThen, composeHeader, composePayment, composePayments, composeLines}
@@ -41,42 +39,6 @@ pub lines-step : (x : List ℕ) (xs : List (List ℕ)) → Some xs
 unfolding composeLines
 lines-step x xs (some y ys) = refl
 
--- ---- good payments, one by one
-
-module _ (left : ℕ) (kind : List ℕ) (t : Totals) (q : Payment) (qs : List Payment) where
-  good-first : GoodFrom left kind t (q ∷ qs) → GoodPayment kind t (lengthOf (length (q .parts))) q
-  good-first g =
-      record {
-        legal = g .legal .0;
-        accounts = omega (arith, g .accounts);
-        bankCodes = omega (arith, g .bankCodes);
-        cents = omega (arith, g .cents);
-        long = refl;
-      }
-
-  good-others : GoodFrom left kind t (q ∷ qs) → GoodFrom (left - 1) kind (adding t q) qs
-  good-others g =
-      record {
-        legal = g .legal .1;
-        some = omega arith;
-        count = omega (arith, g .count);
-        accounts = omega (arith, g .accounts);
-        bankCodes = omega (arith, g .bankCodes);
-        cents = omega (arith, g .cents);
-      }
-
-  good-both : 1 ≤ left → GoodPayment kind t (lengthOf (length (q .parts))) q → GoodFrom (left - 1) kind (adding t q) qs
-      → GoodFrom left kind t (q ∷ qs)
-  good-both h p g =
-      record {
-        legal = (p .legal, g .legal);
-        some = omega arith;
-        count = omega (arith, g .count);
-        accounts = omega (arith, g .accounts);
-        bankCodes = omega (arith, g .bankCodes);
-        cents = omega (arith, g .cents);
-      }
-
 -- ---- the payments' lines
 
 -- the lines of payments that are good after payments which come to t; left: how many may still come
@@ -84,12 +46,12 @@ pub payments-compose : (left : ℕ) (kind : List ℕ) (t : Totals) (p : ℕ) (qs
     → GoodFrom left kind t qs → composePayments kind t p (split lineEnd (paymentLines qs)) ≡ made qs
 unfolding composePayments split
 payments-compose left kind t p [] c g = rw (is-true (leb 1 (t .count)) (le→leb 1 (t .count) (omega (arith, g .some))))
-payments-compose left kind t p (q ∷ qs) c g =
+payments-compose zero kind t p (q ∷ qs) c g = absurd (omega (arith, g .count))
+payments-compose (suc left) kind t p (q ∷ qs) c g =
     let first = good-first left kind t q qs g in
     let clear = payment-clear kind q (first .legal) in
     let x = ascii "C" ++ behindTabs (paymentFields q) in
-    let more = g .count in
-    let next = payments-compose (left - 1) kind (adding t q) (p + suc (length x)) qs (omega arith) (good-others left kind t q qs g) in
+    let next = payments-compose left kind (adding t q) (p + suc (length x)) qs (omega arith) (good-others left kind t q qs g) in
     ap (composePayments kind t p) (line-parted (ascii "C") (paymentFields q) (paymentLines qs) (tt, clear.1))
     ∙ payments-step kind t p x (split lineEnd (paymentLines qs)) (split-some lineEnd (paymentLines qs))
     ∙ rw (fields-parted (ascii "C") (paymentFields q) (tt, clear.0), payment-composes kind t p q (omega arith) first, next)
@@ -106,29 +68,19 @@ payments-heard left kind t p (x ∷ []) qs c w e =
     let a = provided-made (empty x) (refusing 17 p) _ qs e in
     let b = provided-made (leb 1 (t .count)) (refusing 18 p) _ qs a.1 in
     let none : [] ≡ qs = cc in
-    let n = leb→le 1 (t .count) b.0 in
-    rw (← none, empty-is x a.0) (
-      record {
-        legal = tt;
-        some = omega arith;
-        count = omega arith;
-        accounts = omega (arith, w .accounts);
-        bankCodes = omega (arith, w .bankCodes);
-        cents = omega (arith, w .cents);
-      },
-      refl,
-    )
-payments-heard left kind t p (x ∷ y ∷ ys) qs c w e =
+    rw (← none, empty-is x a.0) (none-good left kind t (leb→le 1 (t .count) b.0) w, refl)
+payments-heard zero kind t p (x ∷ y ∷ ys) qs c w e =
+    let a = andThen-made (composePayment kind t p (split tab x)) _ qs e in
+    absurd (omega (arith, payment-heard kind t p (split tab x) a.0 a.1 .may))
+payments-heard (suc left) kind t p (x ∷ y ∷ ys) qs c w e =
     let a = andThen-made (composePayment kind t p (split tab x)) _ qs e in
     let q = a.0 in
     let h = payment-heard kind t p (split tab x) q a.1 in
     let b = andThen-made (composePayments kind (adding t q) (p + suc (length x)) (y ∷ ys)) _ qs a.2 in
-    let m = h .may in
     let g = h .good in
-    let i = payments-heard (left - 1) kind (adding t q) (p + suc (length x)) (y ∷ ys) b.0 (omega arith)
-    (record { accounts = g .accounts; bankCodes = g .bankCodes; cents = g .cents }) b.1 in
+    let i = payments-heard left kind (adding t q) (p + suc (length x)) (y ∷ ys) b.0 (omega arith) (within-next g) b.1 in
     let all : q ∷ b.0 ≡ qs = cc in
-    subst (λ (z : List Payment). GoodFrom left kind t z × (join lineEnd (x ∷ y ∷ ys) ≡ paymentLines z)) all (
-      good-both left kind t q b.0 (omega arith) g i.0,
+    subst (λ (z : List Payment). GoodFrom (suc left) kind t z × (join lineEnd (x ∷ y ∷ ys) ≡ paymentLines z)) all (
+      good-both left kind t q b.0 (g .legal) i.0,
       line-joined x (ascii "C") (paymentFields q) (join lineEnd (y ∷ ys)) (paymentLines b.0) (h .fields) i.1,
     )

@@ -21,13 +21,14 @@ use Rattle.form.proofs.KindLaws.{numeral-length, number-numeral}
 use Rattle.form.proofs.RulesLaws.{_▸_, Filling, Told, Says}
 use Rattle.document.specs.Signs.{ascii}
 use Rattle.document.specs.Values.{Part, Payment, Totals}
-use Rattle.document.specs.Rules.{All, Text, mostPayments, mostCents, LegalPayment}
+use Rattle.document.specs.Rules.{All, Text, mostPayments, LegalPayment}
 use Rattle.diskette.specs.Writing.{section, toSectionEnd, toNextPart, lengthOf, writeParts, writeBody, writePayment}
 use Rattle.diskette.specs.Fields.{firstField}
-use Rattle.document.proofs.FieldLaws.{key-fits, at-least-one}
+use Rattle.document.proofs.FieldLaws.{key-fits}
 use Rattle.diskette.proofs.PartsSays.{markOf}
 use Rattle.diskette.proofs.PaymentSays.{GoodPayment, few-parts, payment-says}
 use Rattle.diskette.proofs.EndSays.{payment-begins}
+use Rattle.diskette.proofs.GoodLaws.{below-top}
 use Rattle.listing.specs.Lines.{tab, lineEnd}
 use Rattle.listing.specs.Listing.{partFields, paymentFields}
 use Rattle.listing.specs.Records.{recordParts, recordC, partsOf, lay, cells, formed}
@@ -122,9 +123,8 @@ module _ (kind : List ℕ) (t : Totals) where
       let l : ℕ = lengthOf k in
       let g = n .good in
       let few = few-parts kind q (g .legal) in
-      let room : t .cents < mostCents = omega (arith, g .cents, at-least-one (q .cents) (g .legal .C12-some)) in
       let f = payment-says kind t l .fill q g in
-      (((l, lt→ltb l (10 ^ 4) (omega arith), payment-begins t k few (n .may) room), f.0), f.1, ap (λ (b : List ℕ). numeral 4 l ++ b) f.2)
+      (((l, lt→ltb l (10 ^ 4) (omega arith), payment-begins t k few (n .may) (below-top g)), f.0), f.1, ap (λ (b : List ℕ). numeral 4 l ++ b) f.2)
 
   -- no length of C is that of E, so that the limit of payments is looked at
   may-begin : (l k : ℕ) → lengthOf k ≡ l → Holds (firstField t l) → t .count < mostPayments

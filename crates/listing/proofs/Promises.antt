@@ -1,7 +1,7 @@
 -- Listing and composing are each other's way back: listings compose to legal documents and to nothing else, and files and listings come round.
 -- The printed lines are parted again and composed one by one (`header-composes`, `payments-compose`); the lines that were composed are those of
 -- a legal header and of payments that are good after none (`header-heard`, `payments-heard`), and joined they are the listing. Legal documents
--- are just these, their conditions under other names. With files it comes round because an accepted file is its document written out.
+-- are just these (`legal-good`, `good-legal`). With files it comes round because an accepted file is its document written out.
 use Prim.Native.Nat.{ℕ, suc}
 use native.Mathlib.Omega.{arith}
 use mathlib.Core.Path.{_≡_, refl, sym, ap, _∙_, subst}
@@ -17,7 +17,8 @@ use Rattle.document.specs.Rules.{mostPayments, Legal}
 use Rattle.diskette.specs.Writing.{write}
 use Rattle.diskette.specs.Fields.{document}
 use Rattle.diskette.specs.Answer.{answer}
-use Rattle.diskette.proofs.FileSays.{GoodFrom, document-says}
+use Rattle.diskette.proofs.GoodLaws.{within-none, legal-good, good-legal}
+use Rattle.diskette.proofs.FileSays.{document-says}
 use Rattle.diskette.proofs.Promises.{accepted-reading}
 use Rattle.listing.specs.Lines.{tab, lineEnd, behindTabs, split, empty}
 use Rattle.listing.specs.Listing.{headerFields, paymentLines, listing}
@@ -36,21 +37,12 @@ listing-composes d l =
     let kind = h .fileKind in
     let clear = header-clear h (l .header) in
     let x = ascii "A" ++ behindTabs (headerFields h) in
-    let good : GoodFrom mostPayments kind noTotals ps
-    = record {
-      legal = l .payments;
-      some = omega (arith, l .some);
-      count = l .count;
-      accounts = omega (arith, l .accounts);
-      bankCodes = omega (arith, l .bankCodes);
-      cents = omega (arith, l .cents);
-    } in
     ap composeLines (line-parted (ascii "A") (headerFields h) (paymentLines ps) (tt, clear.1))
     ∙ lines-step x (split lineEnd (paymentLines ps)) (split-some lineEnd (paymentLines ps))
     ∙ rw (
       fields-parted (ascii "A") (headerFields h) (tt, clear.0),
       header-composes h (l .header),
-      payments-compose mostPayments kind noTotals (suc (length x)) ps (omega arith) good,
+      payments-compose mostPayments kind noTotals (suc (length x)) ps (omega arith) (legal-good d l),
     )
 
 -- A listing that composes is the listing of the document that it composes to, and that document is legal.
@@ -66,20 +58,10 @@ composed-listing l d e = by (split lineEnd l) (join-split lineEnd l) e
         let h = header-heard (split tab x) a.0 a.1 in
         let kind = a .0 .fileKind in
         let b = andThen-made (composePayments kind noTotals (suc (length x)) (y ∷ ys)) _ d a.2 in
-        let i = payments-heard mostPayments kind noTotals (suc (length x)) (y ∷ ys) b.0 (omega arith)
-        (record { accounts = omega arith; bankCodes = omega arith; cents = omega arith }) b.1 in
-        let g = i.0 in
+        let i = payments-heard mostPayments kind noTotals (suc (length x)) (y ∷ ys) b.0 (omega arith) within-none b.1 in
         let all : record { header = a.0; payments = b.0 } ≡ d = cc in
         subst (λ (z : Document). Legal z × (listing z ≡ l)) all (
-          record {
-            header = h.0;
-            payments = g .legal;
-            some = omega (arith, g .some);
-            count = g .count;
-            accounts = omega (arith, g .accounts);
-            bankCodes = omega (arith, g .bankCodes);
-            cents = omega (arith, g .cents);
-          },
+          good-legal (record { header = a.0; payments = b.0 }) h.0 i.0,
           sym (line-joined x (ascii "A") (headerFields a.0) (join lineEnd (y ∷ ys)) (paymentLines b.0) h.1 i.1) ∙ j,
         )
 
