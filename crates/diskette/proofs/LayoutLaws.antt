@@ -5,8 +5,7 @@ use mathlib.Core.Path.{_≡_, refl}
 use mathlib.Core.Option.{Option, none, some}
 use mathlib.Core.List.{List, [], _∷_}
 use lib.ListN.{length, length-append, length-replicate}
-use lib.Dec.{eqb, eqb→eq}
-use Rattle.form.proofs.BelowLaws.{below, below-all}
+use Rattle.form.proofs.BelowLaws.{below, agree}
 use Rattle.form.proofs.KindLaws.{numeral-length}
 use Rattle.document.specs.Calendar.{Day}
 use Rattle.document.specs.Values.{Header, Part, Payment, Totals}
@@ -34,11 +33,11 @@ through i = 128 * section i - toSectionEnd i
 
 part-step : (i : ℕ) → i < 15 → through (suc i) ≡ through i + toNextPart i + 29
 unfolding through toSectionEnd toNextPart below
-part-step i h = eqb→eq (through (suc i)) (through i + toNextPart i + 29) (below-all (λ i. eqb (through (suc i)) (through i + toNextPart i + 29)) 15 i tt h)
+part-step i h = agree (λ i. through (suc i)) (λ i. through i + toNextPart i + 29) 15 i refl h
 
 closed : (i : ℕ) → i < 16 → through i + toSectionEnd i ≡ 128 * section i
 unfolding through toSectionEnd below
-closed i h = eqb→eq (through i + toSectionEnd i) (128 * section i) (below-all (λ i. eqb (through i + toSectionEnd i) (128 * section i)) 16 i tt h)
+closed i h = agree (λ i. through i + toSectionEnd i) (λ i. 128 * section i) 16 i refl h
 
 parts-length : (i : ℕ) (ps : List Part) → i + length ps ≤ 15 → All (λ (q : Part). Text (q .words)) ps → through i + length (writeParts i ps) ≡ 128 * section (i + length ps)
 parts-length i [] h a = let e : i + 0 ≡ i = omega arith in rw (e, length-replicate {A = ℕ} (toSectionEnd i) 0x20) (closed i (omega arith))

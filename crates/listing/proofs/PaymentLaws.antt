@@ -10,12 +10,12 @@ use mathlib.Core.Bool.{not}
 use mathlib.Core.List.{List, [], _∷_, _++_, map, append-assoc, append-nil}
 use lib.ListN.{length, take, drop}
 use lib.Seq.{take-at}
-use lib.Dec.{T, ltb, eqb, ltb→lt, lt→ltb, eqb→eq}
+use lib.Dec.{T, ltb, eqb, ltb→lt, lt→ltb}
 use borrow.Author.Tests.{ne-eqb}
 use Rattle.form.specs.Kind.{numeral, blanks}
 use Rattle.form.specs.Form.{Holds, Filled, value, bytes}
 use Rattle.form.specs.Reader.{number}
-use Rattle.form.proofs.BelowLaws.{below, below-all}
+use Rattle.form.proofs.BelowLaws.{below, agree}
 use Rattle.form.proofs.BoolLaws.{or-other}
 use Rattle.form.proofs.KindLaws.{numeral-length, number-numeral}
 use Rattle.form.proofs.RulesLaws.{_▸_, Filling, Told, Says}
@@ -43,7 +43,7 @@ use Rattle.listing.proofs.PrintedLaws.{AllPrinted, printed-formed, prin
 -- the record of a payment with k parts takes 128 bytes for each section
 pub span-C : (k : ℕ) → k ≤ 15 → span (recordC k) ≡ 128 * section k
 unfolding below numeral toSectionEnd toNextPart
-span-C k h = eqb→eq (span (recordC k)) (128 * section k) (below-all (λ k. eqb (span (recordC k)) (128 * section k)) 16 k tt (omega arith))
+span-C k h = agree (λ k. span (recordC k)) (λ k. 128 * section k) 16 k refl (omega arith)
 
 -- ---- the fields
 
