@@ -6,16 +6,17 @@ use Prim.Native.Nat.{ℕ, zero, suc, _+_, _-_, _/_, _%_, _^_, _≤_, _<_}
 use native.Mathlib.Nat.{div-add-mod', mod-lt, div-lt-iff-lt-mul, pow-succ', one-le-pow, add-zero, mul-add-div-right, mul-add-mod-self-right, mod-eq-of-lt, div-eq-of-lt, mul-le-mul-right, pow-zero}
 use native.Mathlib.Omega.{arith}
 use mathlib.Core.Path.{_≡_, refl, sym, ap, ap₂, subst}
+use mathlib.Core.Logic.{inl, inr}
 use mathlib.Core.Bool.{Bool, true, false}
 use mathlib.Core.List.{List, [], _∷_}
 use mathlib.Core.Option.{none, some}
 use lib.ListN.{length, length-replicate}
 use lib.Dec.{T, leb, ltb, eqb, leb→le, ltb→lt, le→leb, lt→ltb, eqb→eq, eqb-refl}
 use borrow.Author.Tests.{ne-eqb}
-use Rattle.form.specs.Kind.{Kind, fixed, digits, maybe, text, choice, Value, width, fits, spell, numeral, every, same, among, digit, blanks}
+use Rattle.form.specs.Kind.{Kind, fixed, digits, maybe, text, choice, Value, width, fits, spell, numeral, every, one, same, among, oneOf, digit, blanks}
 use Rattle.form.specs.Reader.{Reason, not-fixed, not-digit, not-sign, has, ifSo, number, optional, judge}
 use Rattle.form.proofs.AnswerLaws.{has-or-lacks}
-use Rattle.form.proofs.BoolLaws.{is-true, T-of, and-both, and-of}
+use Rattle.form.proofs.BoolLaws.{is-true, T-of, and-both, and-of, or-cases}
 
 -- ---- rows of bytes
 
@@ -28,6 +29,21 @@ same-eq [] [] t = refl
 same-eq [] (y ∷ ys) t = absurd t
 same-eq (x ∷ xs) [] t = absurd t
 same-eq (x ∷ xs) (y ∷ ys) t = let h = and-both (eqb x y) (same xs ys) t in ap₂ _∷_ (eqb→eq x y h.0) (same-eq xs ys h.1)
+
+-- ---- one of some
+
+-- what is computed of each entry holds of a value that is one of them: of any entries, of words, of numbers
+entry : {A : Type 0} (p q : A → Bool) (v : A) → ((x : A) → T (q x) → x ≡ v) → (xs : List A) → T (every p xs) → T (one q xs) → T (p v)
+entry p q v e [] a t = absurd t
+entry p q v e (x ∷ xs) a t =
+    let h = and-both (p x) (every p xs) a in
+    elim (or-cases (q x) (one q xs) t) [ inl s ↦ subst (λ y. T (p y)) (e x s) h.0 | inr s ↦ entry p q v e xs h.1 s ]
+
+pub among-every : (p : List ℕ → Bool) (words : List (List ℕ)) (v : List ℕ) → T (every p words) → T (among words v) → T (p v)
+among-every p words v = entry p (λ w. same w v) v (λ w. same-eq w v) words
+
+pub oneOf-every : (p : ℕ → Bool) (xs : List ℕ) (n : ℕ) → T (every p xs) → T (oneOf xs n) → T (p n)
+oneOf-every p xs n = entry p (λ x. eqb n x) n (λ x e. sym (eqb→eq n x e)) xs
 
 -- ---- digits
 

@@ -5,26 +5,22 @@
 -- fields behind it, and at the refused field `rule-broken` finds the rule in its list.
 use Prim.Native.Nat.{ℕ}
 use native.Mathlib.Omega.{arith}
-use mathlib.Core.Path.{_≡_, refl, sym, ap, subst, _∙_}
+use mathlib.Core.Path.{_≡_, refl, sym, ap, _∙_}
 use mathlib.Core.Bool.{Bool, true, false}
 use mathlib.Core.List.{List, [], _∷_}
 use mathlib.Core.Option.{some}
 use lib.ListN.{take, drop}
-use lib.Dec.{T, eqb, eqb→eq}
-use mathlib.Core.Logic.{⊎-elim}
+use lib.Dec.{T}
 use Rattle.form.specs.Kind.{Kind, fixed, digits, maybe, text, choice, Value, width, every, same, among, oneOf, digit, blanks}
 use Rattle.form.specs.Form.{Rule, rule, Form, ret, field, fork, _>>=_}
 use Rattle.form.specs.Reader.{Reason, short, not-fixed, not-digit, not-sign, breaks, surplus, Refusal, refused, Look, has, lacks, ifSo, number, optional, judge, obey, _then_, settle, run}
-use Rattle.form.proofs.BoolLaws.{and-both, or-cases}
+use Rattle.form.proofs.KindLaws.{oneOf-every}
 use Rattle.form.proofs.AnswerLaws.{has-or-lacks, accepted-or-refused, same-refusal}
 use Rattle.form.proofs.ReaderLaws.{cut, bad, good, meet, behind}
 
 -- a number of one list is a number of a longer one
 pub one-within : (xs ys : List ℕ) (n : ℕ) → T (every (oneOf ys) xs) → T (oneOf xs n) → T (oneOf ys n)
-one-within [] ys n w t = absurd t
-one-within (x ∷ xs) ys n w t =
-    let h = and-both (oneOf ys x) (every (oneOf ys) xs) w in
-    ⊎-elim (λ e. subst (λ m. T (oneOf ys m)) (sym (eqb→eq n x e)) (h .0)) (λ r. one-within xs ys n (h .1) r) (or-cases (eqb n x) (oneOf xs n) t)
+one-within xs ys n = oneOf-every (oneOf ys) xs n
 
 -- p holds of the number of each rule
 abbrev pub NumberedRules : (ℕ → Bool) → List Rule → Type 0

@@ -5,20 +5,19 @@
 -- which says the legal headers (`header-says`).
 use Prim.Native.Nat.{ℕ}
 use mathlib.Core.Path.{_≡_, refl, sym, ap, _∙_, subst}
-use mathlib.Core.Logic.{inl, inr}
 use mathlib.Core.Bool.{Bool, true, false, _&&_, _||_, not}
-use mathlib.Core.List.{List, [], _∷_}
+use mathlib.Core.List.{List}
 use lib.ListN.{length}
 use lib.Dec.{T, eqb}
 use Rattle.form.specs.Kind.{choice, same, among}
 use Rattle.form.specs.Form.{value}
 use Rattle.form.specs.Reader.{has}
 use Rattle.form.specs.Place.{lookAt, Read, done, readAt}
-use Rattle.form.proofs.BoolLaws.{and-both, or-cases}
-use Rattle.form.proofs.KindLaws.{same-eq}
+use Rattle.form.proofs.BoolLaws.{and-both}
+use Rattle.form.proofs.KindLaws.{same-eq, among-every}
 use Rattle.form.proofs.FilledLaws.{look-fits, read-filled}
 use Rattle.document.specs.Values as values
-use Rattle.document.specs.Rules.{All, fileKinds, sendingBankOk, LegalHeader}
+use Rattle.document.specs.Rules.{fileKinds, sendingBankOk, LegalHeader}
 use Rattle.diskette.specs.Fields.{Name, header}
 use Rattle.diskette.proofs.HeaderSays.{header-says}
 use Rattle.calendar.specs.declared.Day.{Day}
@@ -42,14 +41,10 @@ use Rattle.header.specs.Heading.{Opening, openings, openingWhy, Order, o
 
 -- ---- the letters of A3
 
--- what holds of each of some words holds of one that is among them
-among-each : (P : List ℕ → Type 0) (words : List (List ℕ)) → All P words → (v : List ℕ) → T (among words v) → P v
-among-each P [] h v t = absurd t
-among-each P (w ∷ ws) h v t = elim (or-cases (same w v) (among ws v) t) [ inl e ↦ subst P (same-eq w v e) h.0 | inr e ↦ among-each P ws h.1 v e ]
-
 -- the kind that two letters tell has these letters
 pub letters-among : (letters : List ℕ) → T (among fileKinds letters) → lettersOf (kindOf letters) ≡ letters
-letters-among = among-each (λ w. lettersOf (kindOf w) ≡ w) fileKinds (refl, (refl, (refl, (refl, tt))))
+letters-among letters t =
+    same-eq (lettersOf (kindOf letters)) letters (among-every (λ w. same (lettersOf (kindOf w)) w) fileKinds letters tt t)
 
 pub letters-back : (letters f : List ℕ) (p : ℕ) → lookAt (choice 2 fileKinds) f p ≡ has letters → lettersOf (kindOf letters) ≡ letters
 letters-back letters f p e =

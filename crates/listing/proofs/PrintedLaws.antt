@@ -5,14 +5,13 @@
 use Prim.Native.Nat.{ℕ, _^_, _<_, _≤_}
 use native.Mathlib.Omega.{arith}
 use mathlib.Core.Path.{_≡_, refl, ap, _∙_, subst}
-use mathlib.Core.Logic.{inl, inr}
 use mathlib.Core.Bool.{Bool, true, false, not}
 use mathlib.Core.List.{List, [], _∷_}
 use lib.ListN.{length}
 use lib.Dec.{T, leb, eqb, le→leb, eqb→eq, eqb-refl}
-use Rattle.form.specs.Kind.{Kind, digits, maybe, choice, numeral, every, same, among, digit}
-use Rattle.form.proofs.BoolLaws.{T-of, and-both, and-of, or-cases, or-right}
-use Rattle.form.proofs.KindLaws.{same-eq, numeral-length, numeral-digits}
+use Rattle.form.specs.Kind.{Kind, digits, maybe, choice, numeral, every, among, digit}
+use Rattle.form.proofs.BoolLaws.{T-of, and-both, and-of, or-right}
+use Rattle.form.proofs.KindLaws.{among-every, numeral-length, numeral-digits}
 use Rattle.document.specs.Signs.{sign}
 use Rattle.document.specs.Rules.{Text, fileKinds}
 use Rattle.diskette.specs.Fields.{text27}
@@ -100,16 +99,6 @@ text-printed s l =
       no-tab = avoids tab sign refl t e;
       no-end = avoids lineEnd sign refl t e;
     }
-
--- what is computed of each of some words holds of every one among them
-among-every : (p : List ℕ → Bool) (words : List (List ℕ)) (v : List ℕ) → T (every p words) → T (among words v) → T (p v)
-among-every p [] v a t = absurd t
-among-every p (w ∷ words) v a t =
-    let h = and-both (p w) (every p words) a in
-    elim (or-cases (same w v) (among words v) t) [
-      | inl e ↦ subst (λ (x : List ℕ). T (p x)) (same-eq w v e) h.0
-      | inr e ↦ among-every p words v h.1 e
-    ]
 
 pub kind-printed : (v : List ℕ) → T (among fileKinds v) → Printed (choice 2 fileKinds) v
 kind-printed v t =
