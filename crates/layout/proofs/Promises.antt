@@ -1,6 +1,6 @@
 -- What the layout is proved against: the records as they are written, the records that lines stand for, and the lines. The code's constants are
 -- the layout's by the contracts of `src/listed.rt`.
-use Prim.Native.Nat.{ℕ, _+_, _*_}
+use Prim.Native.Nat.{ℕ, _+_}
 use native.Mathlib.Omega.{arith}
 use mathlib.Core.Path.{_≡_, refl}
 use mathlib.Core.Bool.{false}
@@ -8,13 +8,14 @@ use mathlib.Core.List.{List, [], _∷_, map}
 use lib.ListN.{length, take}
 use Rattle.form.specs.Kind.{width, numeral}
 use Rattle.form.proofs.KindLaws.{numeral-length}
-use Rattle.document.specs.Values.{Header, Part, Payment, Totals}
+use Rattle.document.specs.Values.{Header, Payment, Totals}
 use Rattle.document.specs.Rules.{LegalHeader, LegalPayment}
 use Rattle.document.proofs.FieldLaws.{kind-length}
 use Rattle.diskette.specs.Writing.{lengthOf, fieldsOfA, fieldsOfC, fieldsOfE}
 use Rattle.diskette.proofs.LayoutLaws.{execution-length}
-use Rattle.listing.specs.Listing.{headerFields, partFields, paymentFields}
+use Rattle.listing.specs.Listing.{headerFields, paymentFields}
 use Rattle.listing.specs.Records.{Piece, own, told, recordA, recordC, fieldsOfHeaderLine, numbersOfPaymentLine, fieldsWith, Cell}
+use Rattle.listing.proofs.PaymentLaws.{part-fields}
 use Rattle.layout.specs.Widths.{widthsOfA, widthsOfC, widthsOfE}
 use Rattle.layout.specs.Places.{placesOfA, placesOfC, placesOfE}
 use Rattle.layout.specs.Lines.{first, numbersOfLine}
@@ -78,9 +79,5 @@ numbers-of-line = refl
 pub header-counted : (h : Header) → length (headerFields h) ≡ fieldsOfHeaderLine
 header-counted h = refl
 
-two-each : (qs : List Part) → length (partFields qs) ≡ 2 * length qs
-two-each [] = refl
-two-each (q ∷ qs) = let h = two-each qs in omega arith
-
 pub payment-counted : (p : Payment) → length (paymentFields p) ≡ fieldsWith (length (p .parts))
-payment-counted p = let h = two-each (p .parts) in omega arith
+payment-counted p = let h = part-fields (p .parts) in omega arith

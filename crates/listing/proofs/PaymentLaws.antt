@@ -101,7 +101,7 @@ pub payment-clear : (kind : List ℕ) (q : Payment) → LegalPayment kind q → 
 payment-clear kind q l = printed-clear (cells 0 (recordC (length (q .parts)))) (paymentFields q) (payment-printed kind q l)
 
 -- two fields are printed for each part
-part-fields : (ps : List Part) → length (partFields ps) ≡ 2 * length ps
+pub part-fields : (ps : List Part) → length (partFields ps) ≡ 2 * length ps
 part-fields [] = refl
 part-fields (q ∷ qs) = let i = part-fields qs in omega arith
 
