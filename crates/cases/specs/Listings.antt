@@ -1,5 +1,5 @@
 -- Case M of the requirements both ways, and what composing gives for M's listing with fields and lines changed: one list, one claim.
-use Prim.Native.Nat.{ℕ, zero, suc}
+use Prim.Native.Nat.{ℕ}
 use Prim.Native.String.{String}
 use mathlib.Core.Path.{_≡_, refl}
 use mathlib.Core.List.{List, [], _∷_, _++_, map}
@@ -13,6 +13,7 @@ use Rattle.diskette.specs.Cases.{fileM, given}
 use Rattle.listing.specs.Lines.{split, trim}
 use Rattle.listing.specs.Composing.{composeHeader, composePayment, composePayments, composeLines, compose}
 use Rattle.listing.specs.Endings.{Ending, writes, refuses, listed, composed}
+use Rattle.cases.specs.Others.{times}
 
 -- the file that is composed from a listing; opened, it computes, and so does the listing of a file
 unfoldable pub filed : List ℕ → Ending
@@ -36,9 +37,13 @@ wordsToC16 =
     "C" ∷ "00000000" ∷ "30050020" ∷ "0007654321" ∷ "0000000000000" ∷ "51" ∷ "000" ∷ "20050010" ∷ "0001234567" ∷ "00000012345"
     ∷ "MEIER KG" ∷ "MUSTER GMBH" ∷ "RECHNUNG 17" ∷ []
 
--- the line of M's payment, with its one part
+-- M's one part, with mark 02
+abbrev wordsOfPart : List String
+wordsOfPart = "02" ∷ "KUNDE 4" ∷ []
+
+-- the line of M's payment, with this part
 abbrev pub wordsC : List String
-wordsC = wordsToC16 ++ ("02" ∷ "KUNDE 4" ∷ [])
+wordsC = wordsToC16 ++ wordsOfPart
 
 abbrev pub lineA : List ℕ
 lineA = lineOf wordsA
@@ -81,21 +86,13 @@ behindC16 words n p = record { listing = lineA ++ lineOf (wordsToC16 ++ words); 
 abbrev lines : List (List ℕ) → ℕ → ℕ → Case
 lines ls n p = record { listing = inTurn ls; number = n; place = p }
 
-abbrev times : {A : Type 0} → ℕ → List A → List A
-times zero xs = []
-times (suc n) xs = xs ++ times n xs
-
--- a part with mark 02
-abbrev purpose : List String
-purpose = "02" ∷ "KUNDE 4" ∷ []
-
 -- the line of M's payment with another amount
-abbrev paying : String → List ℕ
-paying cents = lineOf (set wordsC 9 cents)
+abbrev linePaying : String → List ℕ
+linePaying cents = lineOf (set wordsC 9 cents)
 
 -- 100 payments of the largest amount, and then more lines: the 101st payment begins at 12865, the next at 12993
-abbrev near : List (List ℕ) → ℕ → ℕ → Case
-near more n p = lines (lineA ∷ times 100 (paying "99999999999" ∷ []) ++ more) n p
+abbrev behindHundred : List (List ℕ) → ℕ → ℕ → Case
+behindHundred more n p = lines (lineA ∷ times 100 (linePaying "99999999999" ∷ []) ++ more) n p
 
 unfoldable pub cases : List Case
 cases =
@@ -124,7 +121,7 @@ cases =
     ∷ inA 8 "\t" 17 0
     ∷ lines (lineOf (take 8 wordsA) ∷ lineC ∷ []) 17 0
     ∷ behindC16 ("02" ∷ []) 17 65
-    ∷ behindC16 (purpose ++ ("02" ∷ [])) 17 65
+    ∷ behindC16 (wordsOfPart ++ ("02" ∷ [])) 17 65
     ∷ lines (lineA ∷ lineOf (take 12 wordsC) ∷ []) 17 65
     -- fields that end in blanks, also in place of a digit; one that begins with a blank
     ∷ inA 4 "MUSTER GMBH " 17 0
@@ -162,18 +159,18 @@ cases =
     ∷ inC 13 "04" 13 182
     -- no part, 15 in order, 15 times 02, 16
     ∷ behindC16 [] 0 0
-    ∷ behindC16 (("01" ∷ "MEIER KG" ∷ []) ++ (times 13 purpose ++ ("03" ∷ "MUSTER GMBH" ∷ []))) 0 0
-    ∷ behindC16 (times 15 purpose) 13 182
-    ∷ behindC16 (times 16 purpose) 17 65
+    ∷ behindC16 (("01" ∷ "MEIER KG" ∷ []) ++ (times 13 wordsOfPart ++ ("03" ∷ "MUSTER GMBH" ∷ []))) 0 0
+    ∷ behindC16 (times 15 wordsOfPart) 13 182
+    ∷ behindC16 (times 16 wordsOfPart) 17 65
     -- the first line that is wrong counts; in a line its form comes first
     ∷ lines (lineOf (set wordsA 1 "XX") ∷ ascii "Q\n" ∷ []) 2 2
     ∷ lines (lineOf (set (set wordsA 1 "XX") 8 "\r") ∷ lineC ∷ []) 17 0
     ∷ lines (lineA ∷ lineC ∷ lineC ∷ lineOf (set wordsC 3 "0000000000") ∷ []) 11 341
     -- the cent limit: met, passed, and a further line behind it, also one that has not its form
-    ∷ near (paying "00000000099" ∷ []) 0 0
-    ∷ near (paying "00000000100" ∷ []) 9 12_937
-    ∷ near (paying "00000000099" ∷ lineC ∷ []) 9 12_993
-    ∷ near (paying "00000000099" ∷ ascii "C\n" ∷ []) 17 12_993
+    ∷ behindHundred (linePaying "00000000099" ∷ []) 0 0
+    ∷ behindHundred (linePaying "00000000100" ∷ []) 9 12_937
+    ∷ behindHundred (linePaying "00000000099" ∷ lineC ∷ []) 9 12_993
+    ∷ behindHundred (linePaying "00000000099" ∷ ascii "C\n" ∷ []) 17 12_993
     ∷ []
 
 abbrev reached : Ending → ℕ × ℕ

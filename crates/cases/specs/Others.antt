@@ -9,9 +9,10 @@ use Rattle.document.specs.Signs.{ascii}
 use Rattle.diskette.specs.Writing.{inTurn}
 use Rattle.diskette.specs.Cases.{padded, headerM, paymentM, endM, fileM, put, Case, given, wanted}
 
-abbrev pub times : ℕ → List ℕ → List ℕ
-times zero bs = []
-times (suc n) bs = bs ++ times n bs
+-- n times the same, one behind the other
+abbrev pub times : {A : Type 0} → ℕ → List A → List A
+times zero xs = []
+times (suc n) xs = xs ++ times n xs
 
 -- a part with mark 02
 abbrev pub purpose : List ℕ
