@@ -7,14 +7,14 @@
 use Prim.Native.Nat.{ℕ, suc, _+_, _-_, _≤_, _<_, zero}
 use native.Mathlib.Omega.{arith}
 use native.Mathlib.Decide.{decLt}
-use mathlib.Core.Path.{_≡_, refl, sym, ap, _∙_}
-use mathlib.Core.Bool.{Bool, true, false, _&&_}
+use mathlib.Core.Path.{_≡_, refl, ap, _∙_}
+use mathlib.Core.Bool.{Bool, true, false, _&&_, and-true}
 use mathlib.Core.List.{List, [], _∷_}
 use lib.ListN.{length, drop, getD, length-drop, take, drop-of-length-le}
 use lib.Dec.{eqb}
 use lib.Seq.{drop-cons, getD-take, getD-drop, length-take-le}
 use borrow.Author.Tests.{eqb-true, eqb-false, eq-eqb, ne-eqb}
-use Rattle.fields.proofs.StretchLaws.{and-true}
+use Rattle.fields.proofs.LeafLaws.{eqb-turn}
 use Rattle.listing.specs.Lines.{tab, split, endsInBlank, lineEnd, onto}
 use Rattle.layout.specs.Lines as line
 use Rattle.layout.specs.Cells.{letterOf}
@@ -77,18 +77,11 @@ refuted false h = refl
 pub begins-short : (head : Bool) (x : List ℕ) → length x < line.first → false ≡ begins head x
 begins-short head x h = refuted (begins head x) (λ e. let i = at-begun head x e .inside in omega arith)
 
-eqb-swap : (a b : ℕ) → eqb a b ≡ eqb b a
-eqb-swap a b = by (eqb a b) refl
-  where
-    by : (e : Bool) → eqb a b ≡ e → e ≡ eqb b a
-    by true h = sym (eq-eqb b a (sym (eqb-true a b h)))
-    by false h = sym (ne-eqb b a (λ k. eqb-false a b h (sym k)))
-
 pub begins-by : (head : Bool) (b : ℕ) (x : List ℕ) → letterOf head ≡ b ∷ [] → line.first ≤ length x
     → eqb (getD x 0 0) b && eqb (getD x 1 0) tab ≡ begins head x
 begins-by head b [] e h = absurd (omega arith)
 begins-by head b (y ∷ []) e h = absurd (omega arith)
-begins-by head b (y ∷ z ∷ zs) e h = rw (e, eqb-swap y b, eqb-swap z tab, and-true (eqb tab z))
+begins-by head b (y ∷ z ∷ zs) e h = rw (e, eqb-turn y b, eqb-turn z tab, and-true (eqb tab z))
 
 -- ---- z behind m bytes that it is not among
 

@@ -7,7 +7,7 @@ use Prim.Native.Nat.{ℕ, zero, suc, _+_, _-_, _≤_, _<_}
 use native.Mathlib.Numerals.{add-one}
 use native.Mathlib.Omega.{arith}
 use mathlib.Core.Path.{_≡_, refl, sym, ap, subst, _∙_}
-use mathlib.Core.Bool.{Bool, true, false, _&&_, _||_, not, cond}
+use mathlib.Core.Bool.{Bool, true, false, _&&_, _||_, not, cond, or-false, or-comm}
 use mathlib.Core.List.{List, [], _∷_}
 use mathlib.Core.Option.{some}
 use lib.ListN.{length, take, drop, getElem?, length-drop, drop-of-length-le}
@@ -31,16 +31,6 @@ use Rattle.composer.proofs.WalkLaws.{begins, letter-parted, formed-coun
 
 -- ---- the form of a field, by its cell
 
-or-false : (b : Bool) → (b || false) ≡ b
-or-false true = refl
-or-false false = refl
-
-or-swap : (a b : Bool) → (a || b) ≡ (b || a)
-or-swap true true = refl
-or-swap true false = refl
-or-swap false true = refl
-or-swap false false = refl
-
 same-or-less : (n w : ℕ) (b : Bool) → eqb n w ≡ b → (b || (leb n w || false)) ≡ leb n w
 same-or-less n w true e = sym (le-leb n w (omega (arith, eqb-true n w e)))
 same-or-less n w false e = or-false (leb n w)
@@ -48,7 +38,7 @@ same-or-less n w false e = or-false (leb n w)
 pub wide-as : (p : ℕ) (κ : Kind) (n : ℕ) → wideAs (cellOf (some (record { place = p; kind = κ }))) n ≡ wide κ n
 wide-as p (fixed bs) n = or-false (eqb n (length bs))
 wide-as p (digits w) n = or-false (eqb n w)
-wide-as p (maybe w) n = or-swap (eqb n w) (eqb n 0)
+wide-as p (maybe w) n = or-comm (eqb n w) (eqb n 0)
 wide-as p (text sign w) n = same-or-less n w (eqb n w) refl
 wide-as p (choice w words) n = or-false (eqb n w)
 

@@ -8,7 +8,7 @@ use native.Mathlib.Nat.{pow-suc, pow-zero, pow-le-pow-right}
 use native.Mathlib.Numerals.{add-one}
 use native.Mathlib.Omega.{arith}
 use mathlib.Core.Path.{_≡_, refl}
-use mathlib.Core.Bool.{Bool, true, false, _&&_, cond}
+use mathlib.Core.Bool.{Bool, true, false, _&&_, cond, and-false}
 use mathlib.Core.Option.{some}
 use mathlib.Core.List.{List, [], _∷_, _++_}
 use lib.ListN.{length, take, getD, length-append}
@@ -32,10 +32,6 @@ number-more (x ∷ xs) b =
 every-more : (t : ℕ → Bool) (bs : List ℕ) (b : ℕ) → T (every t bs) → T (t b) → T (every t (bs ++ (b ∷ [])))
 every-more t [] b h i = and-of (t b) true i tt
 every-more t (x ∷ xs) b h i = let j = and-both (t x) (every t xs) h in and-of (t x) _ j.0 (every-more t xs b j.1 i)
-
-and-false : (a : Bool) → a && false ≡ false
-and-false true = refl
-and-false false = refl
 
 not-every : (t : ℕ → Bool) (bs : List ℕ) (i : ℕ) → i < length bs → t (getD bs i 0) ≡ false → every t bs ≡ false
 not-every t [] i h e = absurd (omega arith)

@@ -3,7 +3,7 @@ use Prim.Native.Nat.{ℕ, suc, _+_, _≤_, _<_}
 use native.Mathlib.Numerals.{add-one}
 use native.Mathlib.Omega.{arith}
 use mathlib.Core.Path.{_≡_, refl}
-use mathlib.Core.Bool.{Bool, true, false, _&&_, _||_}
+use mathlib.Core.Bool.{Bool, true, false, _&&_, _||_, and-true}
 use mathlib.Core.List.{List, [], _∷_}
 use lib.ListN.{length, getD, take, drop}
 use lib.Seq.{drop-cons}
@@ -13,7 +13,6 @@ use Rattle.form.specs.Reader.{not-fixed, ifSo, judge}
 use Rattle.document.specs.Rules.{fileKinds}
 use Rattle.fields.specs.Answers.{kindOf}
 use Rattle.fields.proofs.LeafLaws.{eqb-turn}
-use Rattle.fields.proofs.StretchLaws.{and-true}
 
 pub two-bytes : (s : List ℕ) (p : ℕ) → p + 2 ≤ length s → take 2 (drop p s) ≡ getD s p 0 ∷ getD s (p + 1) 0 ∷ []
 two-bytes s p h =

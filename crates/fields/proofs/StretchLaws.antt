@@ -7,20 +7,12 @@ use native.Mathlib.Nat.{add-comm}
 use native.Mathlib.Numerals.{add-one}
 use native.Mathlib.Omega.{arith}
 use mathlib.Core.Path.{_≡_, refl, sym, ap, _∙_}
-use mathlib.Core.Bool.{Bool, true, false, _&&_}
+use mathlib.Core.Bool.{Bool, true, false, _&&_, and-assoc, and-true}
 use mathlib.Core.List.{List, [], _∷_}
 use lib.ListN.{length, getD, take, drop, length-drop, drop-of-length-le}
 use lib.Seq.{drop-cons, getD-take, getD-drop, length-take-le}
 use lib.Dec.{eqb}
 use Rattle.form.specs.Kind.{every, same}
-
-and-three : (a b c : Bool) → (a && b) && c ≡ a && (b && c)
-and-three true b c = refl
-and-three false b c = refl
-
-pub and-true : (a : Bool) → a && true ≡ a
-and-true true = refl
-and-true false = refl
 
 -- S i: what the bytes from i on say; the flag a stands for the bytes before i
 pub record Flag (S : ℕ → Bool) (a : Bool) (i : ℕ) : Type 0 where
@@ -28,7 +20,7 @@ pub record Flag (S : ℕ → Bool) (a : Bool) (i : ℕ) : Type 0 where
 
 module _ {S : ℕ → Bool} {a : Bool} {i : ℕ} where
   pub flag-more : (x : Bool) → Flag S a i → S i ≡ x && S (i + 1) → Flag S (a && x) (i + 1)
-  flag-more x h e = record { all = and-three a x (S (i + 1)) ∙ ap (λ b. a && b) (sym e) ∙ h .all }
+  flag-more x h e = record { all = and-assoc a x (S (i + 1)) ∙ ap (λ b. a && b) (sym e) ∙ h .all }
 
   pub flag-end : Flag S a i → S i ≡ true → a ≡ S 0
   flag-end h e = sym (and-true a) ∙ ap (λ b. a && b) (sym e) ∙ h .all

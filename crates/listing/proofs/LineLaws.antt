@@ -6,7 +6,7 @@
 use Prim.Native.Nat.{ℕ, zero, suc, _+_, _-_, _≤_}
 use native.Mathlib.Omega.{arith}
 use mathlib.Core.Path.{_≡_, refl, sym, ap, ap₂, _∙_}
-use mathlib.Core.Bool.{Bool, true, false, _&&_, not, cond}
+use mathlib.Core.Bool.{Bool, true, false, _&&_, not, cond, and-false}
 use mathlib.Core.List.{List, [], _∷_, _++_, append-assoc, append-nil}
 use lib.ListN.{length, take, length-append, length-replicate, replicate-append-replicate}
 use lib.Seq.{length-take-le, take-all, take-at, take-append-seam}
@@ -208,11 +208,7 @@ trim-behind : (t : List ℕ) (n : ℕ) → T (not (endsInBlank t)) → trim (t +
 unfolding trim
 trim-behind [] n h = trim-blanks n
 trim-behind (b ∷ []) n h = rw (trim-blanks n, is-false (eqb b 0x20) h)
-trim-behind (b ∷ c ∷ cs) n h = rw (trim-behind (c ∷ cs) n h, and-no (eqb b 0x20))
-  where
-    and-no : (x : Bool) → (x && false) ≡ false
-    and-no true = refl
-    and-no false = refl
+trim-behind (b ∷ c ∷ cs) n h = rw (trim-behind (c ∷ cs) n h, and-false (eqb b 0x20))
 
 -- ---- fields made wide
 

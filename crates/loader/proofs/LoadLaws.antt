@@ -2,7 +2,7 @@
 use Prim.Native.Nat.{ℕ}
 use mathlib.Core.Path.{_≡_, refl, sym, ap, subst, _∙_}
 use mathlib.Core.Logic.{_≢_}
-use mathlib.Core.Bool.{Bool, true, false, _&&_}
+use mathlib.Core.Bool.{Bool, true, false, _&&_, and-true}
 use mathlib.Core.List.{List, [], _∷_}
 use lib.ListN.{length}
 use lib.Dec.{leb}
@@ -23,10 +23,6 @@ fourTested n a b c d = leb n (length a) && (leb n (length b) && (leb n (length c
 
 room-of-four : (n : ℕ) (a b c d : List ℕ) → fourTested n a b c d ≡ haveRoom n (a ∷ b ∷ c ∷ d ∷ [])
 room-of-four n a b c d = ap (λ t. leb n (length a) && (leb n (length b) && (leb n (length c) && t))) (sym (and-true (leb n (length d))))
-  where
-    and-true : (t : Bool) → t && true ≡ t
-    and-true true = refl
-    and-true false = refl
 
 -- what `load` ensures of its result and of the columns, for the file and what the columns held before
 abbrev pub Says : List ℕ → List ℕ → List ℕ → List ℕ → List ℕ → Checked → List ℕ → List ℕ → List ℕ → List ℕ → Type 0

@@ -9,7 +9,7 @@ use native.Mathlib.Nat.{add-zero}
 use native.Mathlib.Omega.{arith}
 use mathlib.Core.Path.{_≡_, refl, sym, _∙_}
 use mathlib.Core.Logic.{inl, inr}
-use mathlib.Core.Bool.{Bool, true, false, _&&_, _||_, cond}
+use mathlib.Core.Bool.{Bool, true, false, _&&_, _||_, cond, or-false}
 use mathlib.Core.List.{List, [], _∷_}
 use lib.ListN.{length, take, drop, length-take, length-drop, length-replicate}
 use lib.Seq.{drop-drop, take-take}
@@ -108,16 +108,12 @@ module _ (i : ℕ) where
 
 -- ---- marks, one after another
 
-or-none : (b : Bool) → b ≡ b || false
-or-none true = refl
-or-none false = refl
-
 module _ (room m : ℕ) where
   pub mark-01 : m ≡ 1 → eqb room 15 ≡ markOk room m
-  mark-01 e = rw e (or-none (eqb room 15))
+  mark-01 e = rw e (sym (or-false (eqb room 15)))
 
   pub mark-02 : m ≡ 2 → leb 2 room ≡ markOk room m
-  mark-02 e = rw e (or-none (leb 2 room))
+  mark-02 e = rw e (sym (or-false (leb 2 room)))
 
   pub mark-03 : (m ≡ 1 → ⊥) → (m ≡ 2 → ⊥) → eqb m 3 && leb 1 room ≡ markOk room m
   mark-03 d e = rw (ne-eqb m 1 d, ne-eqb m 2 e)
