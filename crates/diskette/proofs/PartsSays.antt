@@ -61,16 +61,21 @@ none-left i room = record { fill = fill; told = told }
         let t = blanks-told (section i) (toSectionEnd i) (λ u. ret []) r in
         ([], (refl, tt, tt), t.1, t.2 ∙ append-nil (blanks (toSectionEnd i)))
 
--- one part, and those that are left behind it
+-- part i + 1, and those that are left behind it
+abbrev pub onePart : ℕ → ℕ → ℕ → Form Name (List Part)
+onePart left i room = do
+  m ← get (mark (suc i)) (digits 2) (markRules room left)
+  t ← any (words (suc i)) text27
+  ps ← parts left (suc i) (roomAfter m room)
+  ret (record { mark = m; words = t } ∷ ps)
+
 module _ (left i room : ℕ) (says : (j x : ℕ) → Says (parts left j x) (GoodParts left x) (writeParts j)) where
   abbrev close : ℕ → List ℕ → List Part → Form Name (List Part)
   close m t ps = ret (record { mark = m; words = t } ∷ ps)
 
   -- the fields behind the closing blanks
   abbrev behind : Value (fixed []) → Form Name (List Part)
-  behind u =
-      get (mark (suc i)) (digits 2) (markRules room left) >>= λ m.
-      any (words (suc i)) text27 >>= λ t. parts left (suc i) (roomAfter m room) >>= close m t
+  behind u = onePart left i room
 
   -- a part fills in its two fields, s fills in what is behind them
   with-part : (q : Part) (qs : List Part) → Allowed room left (q .mark) → LegalWords q

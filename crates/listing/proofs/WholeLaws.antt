@@ -5,15 +5,16 @@ use mathlib.Core.Path.{_≡_}
 use mathlib.Core.List.{List, [], _∷_}
 use lib.ListN.{length, drop, length-replicate}
 use lib.Dec.{eqb→eq}
-use Rattle.form.specs.Kind.{digits, numeral}
-use Rattle.form.specs.Form.{Form, ret, get, any, _>>=_}
+use Rattle.form.specs.Kind.{numeral}
+use Rattle.form.specs.Form.{ret}
 use Rattle.form.proofs.KindLaws.{numeral-length}
 use Rattle.form.proofs.RulesLaws.{_▸_}
 use Rattle.form.proofs.WholeLaws.{EndsBy, ends-bind}
-use Rattle.document.specs.Values.{Part, Totals}
+use Rattle.document.specs.Values.{Totals}
 use Rattle.document.specs.Marks.{mostParts, roomAfter}
 use Rattle.diskette.specs.Writing.{section, toSectionEnd, toNextPart, lengthOf}
-use Rattle.diskette.specs.Fields.{Name, mark, words, text27, markRules, header, closingBlanks, parts, payment}
+use Rattle.diskette.specs.Fields.{header, closingBlanks, parts, payment}
+use Rattle.diskette.proofs.PartsSays.{onePart}
 use Rattle.listing.specs.Records.{recordA, recordParts, recordC}
 use Rattle.listing.proofs.RecordLaws.{span}
 
@@ -44,14 +45,6 @@ closing-ends : (s n q : ℕ) → EndsBy (closingBlanks s n) q (q + n)
 closing-ends s zero q = tt
 closing-ends s (suc n) q = λ v. omega (arith, length-replicate {A = ℕ} (suc n) 0x20) ▸ λ h. tt
 
--- part i + 1 and those behind it, so many as are left
-abbrev fromPart : ℕ → ℕ → ℕ → Form Name (List Part)
-fromPart left i room = do
-  m ← get (mark (suc i)) (digits 2) (markRules room left)
-  t ← any (words (suc i)) text27
-  ps ← parts left (suc i) (roomAfter m room)
-  ret (record { mark = m; words = t } ∷ ps)
-
 parts-end : (left i room q e : ℕ) → q + span (recordParts i left) ≤ e → EndsBy (parts left i room) q e
 unfolding parts
 parts-end zero i room q e h =
@@ -61,7 +54,7 @@ parts-end zero i room q e h =
 parts-end (suc left) i room q e h =
     let n = toNextPart i in
     let b = length-replicate {A = ℕ} n 0x20 in
-    ends-bind (closingBlanks (section i) n) (λ u. fromPart left i room) q (q + n) e (omega arith) (omega arith) (closing-ends (section i) n q) (λ u p g.
+    ends-bind (closingBlanks (section i) n) (λ u. onePart left i room) q (q + n) e (omega arith) (omega arith) (closing-ends (section i) n q) (λ u p g.
     λ m.
     omega arith ▸ λ kept t.
     omega arith ▸ λ free.

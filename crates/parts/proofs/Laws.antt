@@ -16,14 +16,14 @@ use lib.Seq.{drop-drop, take-take}
 use lib.Dec.{leb, eqb, eqb→eq}
 use borrow.Author.Tests.{leb-true, ne-eqb}
 use Rattle.form.specs.Kind.{Kind, fixed, digits, width, blanks}
-use Rattle.form.specs.Form.{Rule, Form, ret, get, any, _>>=_, _>>_}
+use Rattle.form.specs.Form.{Rule, Form, ret, _>>=_, _>>_}
 use Rattle.form.specs.Reader.{Look}
 use Rattle.form.specs.Place.{lookAt, fieldAt, readAt}
 use Rattle.form.proofs.BoolLaws.{T-of, or-cases}
-use Rattle.document.specs.Values.{Part}
 use Rattle.diskette.specs.Writing.{section, toSectionEnd, toNextPart}
-use Rattle.document.specs.Marks.{roomAfter, markOk}
-use Rattle.diskette.specs.Fields.{Name, mark, words, text27, markRules, closingBlanks, parts}
+use Rattle.document.specs.Marks.{markOk}
+use Rattle.diskette.specs.Fields.{Name, text27, closingBlanks, parts}
+use Rattle.diskette.proofs.PartsSays.{onePart}
 use Rattle.fields.specs.declared.Refusal.{Refusal}
 use Rattle.fields.specs.declared.Passed.{Passed}
 use Rattle.fields.specs.declared.Passed.the-variants as passed
@@ -119,13 +119,6 @@ module _ (room m : ℕ) where
   mark-03 d e = rw (ne-eqb m 1 d, ne-eqb m 2 e)
 
 -- ---- the parts, one opened
-
-abbrev pub onePart : ℕ → ℕ → ℕ → Form Name (List Part)
-onePart left i room = do
-  m ← get (mark (suc i)) (digits 2) (markRules room left)
-  t ← any (words (suc i)) text27
-  ps ← parts left (suc i) (roomAfter m room)
-  ret (record { mark = m; words = t } ∷ ps)
 
 -- left parts are to come behind part i, and a is the answer to the blanks that close its section
 module _ {f : List ℕ} {g : Passed} {p : ℕ} (left i room : ℕ) (w : Walk passings f g (parts left i room) p) where

@@ -15,10 +15,11 @@ use Rattle.form.specs.Reader.{has}
 use Rattle.form.specs.Place.{lookAt, fieldAt, readAt}
 use Rattle.form.proofs.PlaceLaws.{look-inside, field-inside}
 use Rattle.diskette.specs.Fields.{text27, markRules, parts}
+use Rattle.diskette.proofs.PartsSays.{onePart}
 use Rattle.fields.specs.Answers.{ofRead, passings}
 use Rattle.fields.proofs.WalkLaws.{Walk, Next, start, past, stopped, past-ruled, stopped-ruled, fails}
 use Rattle.fields.proofs.AnswerLaws.{passings-told, numbers-told, passed-to, number-is}
-use Rattle.parts.proofs.Laws.{mark-there, words-there, fails-there, not-kept, onePart, parts-over, part-next, part-barred}
+use Rattle.parts.proofs.Laws.{mark-there, words-there, fails-there, not-kept, parts-over, part-next, part-barred}
 use Rattle.parts.proofs.read_parts.Statement.{statement}
 use Rattle.parts.proofs.read_parts.Tie as tie
 
