@@ -12,6 +12,7 @@ use mathlib.Core.Logic.{_≢_}
 use mathlib.Core.List.{List, [], _∷_}
 use lib.ListN.{length, take, drop}
 use lib.Seq.{length-take-le}
+use Rattle.form.proofs.KindLaws.{length-zero}
 use Rattle.verdict.specs.Verdicts.{refusing}
 use Rattle.document.specs.Values.{Header, Payment, Document, Totals, noTotals, totals}
 use Rattle.diskette.specs.Writing.{writePayments}
@@ -53,11 +54,7 @@ module _ (l : List ℕ) (e : ℕ) (ends : e ≡ 0 + reach lineEnd l) where
 
     pub listing-none : e ≡ 0 → {r : Refusal} → r ≡ refusalOf 18 0 → lines.Refused r ≡ listingTold (compose l)
     unfolding compose composeLines
-    listing-none n w = ap lines.Refused w ∙ sym (ap (λ xs. listingTold (composeLines xs)) (one-piece ∙ ap (λ x. x ∷ []) (nothing l (omega arith))))
-      where
-        nothing : (x : List ℕ) → length x ≡ 0 → x ≡ []
-        nothing [] g = refl
-        nothing (b ∷ bs) g = absurd (omega arith)
+    listing-none n w = ap lines.Refused w ∙ sym (ap (λ xs. listingTold (composeLines xs)) (one-piece ∙ ap (λ x. x ∷ []) (length-zero l (omega arith))))
 
     pub listing-cut : e ≢ 0 → {r : Refusal} → r ≡ refusalOf 17 0 → lines.Refused r ≡ listingTold (compose l)
     unfolding compose composeLines

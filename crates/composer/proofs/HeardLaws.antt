@@ -1,11 +1,10 @@
 -- A line as the code hears it: its form, then the record that it stands for, and the place of a refused field in it.
-use Prim.Native.Nat.{ℕ, suc, _+_, _≤_}
+use Prim.Native.Nat.{ℕ, _+_, _≤_}
 use native.Mathlib.Omega.{arith}
 use mathlib.Core.Path.{_≡_, refl, sym, ap, _∙_}
-use mathlib.Core.Bool.{Bool, true, false, cond}
+use mathlib.Core.Bool.{Bool, true, false}
 use mathlib.Core.List.{List, [], _∷_}
 use lib.ListN.{length, take, length-append}
-use lib.Dec.{eqb}
 use Rattle.form.specs.Kind.{same}
 use Rattle.form.specs.Form.{Form}
 use Rattle.form.specs.Place.{readAt}
@@ -17,11 +16,13 @@ use Rattle.fields.specs.declared.Refusal.{Refusal}
 use Rattle.fields.specs.Answers.{refusalOf, Telling, ofRead}
 use Rattle.fields.proofs.WalkLaws.{Told, halts}
 use Rattle.listing.specs.Lines.{tab, behindTabs, split}
-use Rattle.listing.specs.Records.{Piece, Cell, cells, lay, inLine}
+use Rattle.listing.specs.Records.{Piece, cells, lay}
 use Rattle.listing.specs.Composing.{denied, heard, composeLine}
 use Rattle.listing.proofs.LineLaws.{line-from}
+use Rattle.listing.proofs.NumberLaws.{in-line}
 use Rattle.layout.specs.Lines as line
 use Rattle.layout.specs.Cells.{letterOf, cellsOf}
+use Rattle.layout.proofs.CellLaws.{letter-long}
 use Rattle.composer.specs.Telling.{lineFormed, behindLetter, FormedLine, placeIn, tells}
 
 -- ---- the form
@@ -47,27 +48,13 @@ module _ {A : Type 0} (m : Form Name A) (head : Bool) (n p : ℕ) (ps : List Pie
 
 -- ---- the place
 
-in-line-inside : (cs : List Cell) (ts : List (List ℕ)) (q p : ℕ) → inLine cs ts q p ≤ q + length (behindTabs ts)
-in-line-inside [] ts q p = omega arith
-in-line-inside (c ∷ cs) [] q p = omega arith
-in-line-inside (c ∷ cs) (t ∷ ts) q p = by (eqb p (c .place)) (in-line-inside cs ts (q + suc (length t)) p)
-  where
-    by : (b : Bool) → inLine cs ts (q + suc (length t)) p ≤ q + suc (length t) + length (behindTabs ts)
-        → cond b q (inLine cs ts (q + suc (length t)) p) ≤ q + length (behindTabs (t ∷ ts))
-    by true h = omega arith
-    by false h = let e = length-append t (behindTabs ts) in omega arith
-
 pub place-inside : (head : Bool) (n : ℕ) (x : List ℕ) (p : ℕ) → FormedLine head n x → placeIn head n (split tab x) p ≤ length x + 1
 place-inside head n x p f = by (split tab x) refl (f .1 .1)
   where
-    one-letter : (head : Bool) → length (letterOf head) ≡ 1
-    one-letter true = refl
-    one-letter false = refl
-
     by : (ts : List (List ℕ)) → split tab x ≡ ts → lineFormed head n ts ≡ true → placeIn head n ts p ≤ length x + 1
     by [] e g = absurd (T-of g)
     by (t ∷ ts) e g =
-        let i = in-line-inside (take n (cellsOf head)) ts line.first p in
+        let i = in-line (take n (cellsOf head)) ts line.first p in
         let l : length t + length (behindTabs ts) ≡ length x = sym (length-append t (behindTabs ts)) ∙ ap length (line-from x t ts e) in
-        let o : 1 ≡ length t = sym (one-letter head) ∙ ap length (same-eq (letterOf head) t (and-both (same (letterOf head) t) _ (T-of g) .0)) in
+        let o : 1 ≡ length t = sym (letter-long head) ∙ ap length (same-eq (letterOf head) t (and-both (same (letterOf head) t) _ (T-of g) .0)) in
         omega arith

@@ -21,6 +21,7 @@ use Rattle.listing.proofs.LineLaws.{clear, split-sign, line-from}
 use Rattle.listing.proofs.RecordLaws.{formed-length}
 use Rattle.layout.specs.Lines as line
 use Rattle.layout.specs.Cells.{letterOf, cellsOf}
+use Rattle.layout.proofs.CellLaws.{letter-long}
 use Rattle.line_reader.specs.Reaching.{reach}
 use Rattle.line_reader.proofs.ReachLaws.{reach-le, pieces-more, pieces-last}
 use Rattle.composer.specs.Telling.{lineFormed, behindLetter, FormedLine}
@@ -34,10 +35,6 @@ begins head x = same (letterOf head ++ (tab ∷ [])) (take line.first x)
 letter-clear : (head : Bool) → T (clear tab (letterOf head))
 letter-clear true = tt
 letter-clear false = tt
-
-letter-long : (head : Bool) → length (letterOf head) ≡ 1
-letter-long true = refl
-letter-long false = refl
 
 module _ (head : Bool) (x : List ℕ) (h : begins head x ≡ true) where
   letter-first : letterOf head ++ (tab ∷ drop line.first x) ≡ x

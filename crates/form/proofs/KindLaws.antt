@@ -119,9 +119,9 @@ pub so : {X : Type 0} (b : Bool) (x y : X) (z : Reason) → ifSo b x z ≡ has y
 so true x y z e = (tt, cc)
 so false x y z e = absurd (has-or-lacks (sym e))
 
-empty : (f : List ℕ) → length f ≡ 0 → f ≡ []
-empty [] e = refl
-empty (x ∷ xs) e = absurd (omega arith)
+pub length-zero : (f : List ℕ) → length f ≡ 0 → f ≡ []
+length-zero [] e = refl
+length-zero (x ∷ xs) e = absurd (omega arith)
 
 -- ---- the three laws of a kind
 
@@ -159,7 +159,7 @@ judge-has (maybe w) f v l e = by w l (same (blanks w) f) refl e
   where
     by : (w : ℕ) → length f ≡ w → (b : Bool) → same (blanks w) f ≡ b → optional b f ≡ has v → T (fits (maybe w) v) × (spell (maybe w) v ≡ f)
     by w l true p e = let g : none ≡ v = cc in rw (← g) (tt, same-eq (blanks w) f (T-of p))
-    by zero l false p e = absurd (subst T p (rw (empty f l) tt))
+    by zero l false p e = absurd (subst T p (rw (length-zero f l) tt))
     by (suc w) l false p e =
         let h = so (every digit f) (some (number f)) v not-digit e in
         let i : 0 < length f = omega arith in

@@ -6,7 +6,7 @@
 use Prim.Native.Nat.{ℕ, zero, suc, _+_, _-_, _*_, _/_, _%_, _≤_, _<_}
 use native.Mathlib.Omega.{arith}
 use mathlib.Core.Path.{_≡_, refl, sym, ap, ap₂, subst, _∙_}
-use mathlib.Core.Bool.{true, false}
+use mathlib.Core.Bool.{Bool, true, false}
 use mathlib.Core.List.{List, [], _∷_}
 use mathlib.Core.Option.{none}
 use lib.ListN.{length, getD, getElem?, take}
@@ -17,7 +17,12 @@ use Rattle.form.proofs.BelowLaws.{below, agree}
 use Rattle.diskette.specs.Writing.{toSectionEnd, toNextPart}
 use Rattle.listing.specs.Records.{recordParts, recordC, cells}
 use Rattle.layout.specs.declared.Cell.{Cell}
-use Rattle.layout.specs.Cells.{recordOf, cellOf, cellsOf, cellAt}
+use Rattle.layout.specs.Cells.{letterOf, recordOf, cellOf, cellsOf, cellAt}
+
+-- the letter of a line is one byte
+pub letter-long : (head : Bool) → length (letterOf head) ≡ 1
+letter-long true = refl
+letter-long false = refl
 
 -- a list has no element from its length on
 pub beyond : {X : Type 0} (l : List X) (i : ℕ) → length l ≤ i → getElem? l i ≡ none

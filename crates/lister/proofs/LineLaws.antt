@@ -19,6 +19,7 @@ use Rattle.listing.specs.Records.{Cell, cut}
 use Rattle.listing.proofs.LineLaws.{length-trim}
 use Rattle.layout.specs.declared.Cell.{Cell as CodeCell}
 use Rattle.layout.specs.Cells.{letterOf, cellsOf, cellOf, cellAt}
+use Rattle.layout.proofs.CellLaws.{letter-long}
 use Rattle.lister.specs.Printing.{lineAt, Lies, printedCell}
 
 -- the fields in these cells of the record at p, each behind a tab
@@ -96,10 +97,6 @@ pub line-long : (head : Bool) (n : ℕ) (f : List ℕ) (p : ℕ) → length (lin
 line-long head n f p =
     let t = tabbed f p (take n (cellsOf head)) in
     omega (arith, letter-long head, length-append (letterOf head) (t ++ (lineEnd ∷ [])), length-append t (lineEnd ∷ []))
-  where
-    letter-long : (head : Bool) → length (letterOf head) ≡ 1
-    letter-long true = refl
-    letter-long false = refl
 
 -- ---- counting
 

@@ -116,7 +116,7 @@ given-then end (denied v) k g h = g
 -- ---- one line
 
 -- where a refused field stands in a line: at most at the end of the line
-in-line : (cs : List Cell) (ts : List (List ℕ)) (q p : ℕ) → inLine cs ts q p ≤ q + length (behindTabs ts)
+pub in-line : (cs : List Cell) (ts : List (List ℕ)) (q p : ℕ) → inLine cs ts q p ≤ q + length (behindTabs ts)
 in-line [] ts q p = omega arith
 in-line (c ∷ cs) [] q p = omega arith
 in-line (c ∷ cs) (t ∷ ts) q p = by (eqb p (c .place)) (in-line cs ts (q + suc (length t)) p)
