@@ -11,6 +11,7 @@ use lib.ListN.{length, take, drop}
 use lib.Dec.{leb}
 use borrow.Author.Tests.{le-leb, ne-eqb}
 use Rattle.verdict.specs.Lent.{filled}
+use Rattle.verdict.proofs.LentLaws.{filled-first, filled-behind}
 use Rattle.diskette.specs.Answer.{answer, outcome, Outcome}
 use Rattle.listing.specs.Composing.{compose}
 use Rattle.listing.specs.Endings.{Ending, writes, refuses, listed, composed, within, written}
@@ -67,7 +68,7 @@ pub record Begins (figures result new : List ℕ) : Type 0 where
 begins : (figures result : List ℕ) {new : List ℕ} → length figures ≤ length result → new ≡ told figures result → Begins figures result new
 begins figures result h e =
     let f = e ∙ sym (all-told figures result h) in
-    record { first = endings.filled-first figures result refl f; behind = endings.filled-behind figures result refl f }
+    record { first = filled-first figures result refl f; behind = filled-behind figures result refl f }
 
 module _ (result : List ℕ) (r : ℕ) (new : List ℕ) where
   -- ---- a check

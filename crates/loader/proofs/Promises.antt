@@ -23,6 +23,7 @@ use Rattle.diskette.specs.Fields.{Name}
 use Rattle.verdict.specs.Verdicts.{accepting}
 use Rattle.verdict.specs.Lent.{filled}
 use Rattle.verdict.specs.Numbers.{ofFile, ofLoad}
+use Rattle.verdict.proofs.LentLaws.{filled-behind}
 use Rattle.diskette.specs.Answer.{answer, outcome, paymentsOf}
 use Rattle.diskette.proofs.LayoutLaws.{header-length}
 use Rattle.diskette.proofs.Promises.{RefusedFile, else-refused, zero-exactly, accepted-exactly, accepted-reading}
@@ -35,7 +36,7 @@ use Rattle.loader.specs.Loading.{haveRoom, ifRoom, noRoom, loading, rows
 use Rattle.loader.proofs.ColumnLaws.{Filled}
 use Rattle.loader.proofs.FillLaws.{length-starts}
 use Rattle.loader.proofs.LoadLaws.{Says}
-use Rattle.loader.proofs.RowLaws.{row-of, start-of, stands-at, behind-rows}
+use Rattle.loader.proofs.RowLaws.{row-of, start-of, stands-at}
 
 sixteen : _≡_ {A = ℕ} 0 16 → ⊥
 sixteen e = omega arith
@@ -164,8 +165,8 @@ module _ (file c4 c5 c12 start : List ℕ) where
           × (drop (r .count) c12′ ≡ drop (r .count) c12) × (drop (r .count) start′ ≡ drop (r .count) start)
       tails-are =
           let ps = rows r file in (
-            behind-rows (bankCodes ps) c4 c4′ (r .count) (says .1 .0) (length-map ps (λ y. y .bankCode) ∙ count-is),
-            behind-rows (accounts ps) c5 c5′ (r .count) (says .1 .1 .0) (length-map ps (λ y. y .account) ∙ count-is),
-            behind-rows (cents ps) c12 c12′ (r .count) (says .1 .1 .1 .0) (length-map ps (λ y. y .cents) ∙ count-is),
-            behind-rows (starts ps) start start′ (r .count) (says .1 .1 .1 .1) (length-starts firstPayment ps ∙ count-is),
+            filled-behind (bankCodes ps) c4 (sym (length-map ps (λ y. y .bankCode) ∙ count-is)) (says .1 .0),
+            filled-behind (accounts ps) c5 (sym (length-map ps (λ y. y .account) ∙ count-is)) (says .1 .1 .0),
+            filled-behind (cents ps) c12 (sym (length-map ps (λ y. y .cents) ∙ count-is)) (says .1 .1 .1 .0),
+            filled-behind (starts ps) start (sym (length-starts firstPayment ps ∙ count-is)) (says .1 .1 .1 .1),
           )

@@ -9,7 +9,6 @@ use lib.Seq.{take-at, drop-at}
 use Rattle.document.specs.Values.{Payment, Document, totals}
 use Rattle.diskette.specs.Writing.{writeHeader, writePayment, writePayments, writeEnd, write}
 use Rattle.fields.proofs.AnswerLaws.{zero-one}
-use Rattle.verdict.specs.Lent.{filled}
 use Rattle.loader.specs.Columns.{startsFrom}
 
 is-some : {A : Type 0} {x y : A} → _≡_ {A = Option A} (some x) (some y) → x ≡ y
@@ -69,7 +68,3 @@ stands-at d f is i p e n l =
     let a = writePayments (take i (d .payments)) in
     cut h a (writePayment p) (writePayments (drop (suc i) (d .payments))) (writeEnd (totals (d .payments)) ++ []) f
     (ap (λ r. h ++ (r ++ (writeEnd (totals (d .payments)) ++ []))) (sym (around p (d .payments) i e)) ∙ is) n (length-append h a ∙ sym l)
-
--- rows from the first on leave what stands behind them
-pub behind-rows : (rows old new : List ℕ) (n : ℕ) → new ≡ filled rows old → length rows ≡ n → drop n new ≡ drop n old
-behind-rows rows old new n e l = ap (drop n) e ∙ drop-at rows (drop (length rows) old) n l ∙ ap (λ k. drop k old) l

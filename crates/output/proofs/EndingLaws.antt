@@ -10,13 +10,13 @@ use mathlib.Core.Logic.{_≢_}
 use mathlib.Core.Bool.{Bool, true, false, cond}
 use mathlib.Core.List.{List}
 use lib.ListN.{length, take, drop}
-use lib.Seq.{take-at, drop-at}
 use lib.Dec.{T, leb}
 use borrow.Author.Tests.{leb-true, leb-false, le-leb, lt-leb}
 use Rattle.form.specs.Kind.{oneOf}
 use Rattle.verdict.specs.declared.Verdict.{Verdict}
 use Rattle.verdict.specs.Verdicts.{accepting, refusing}
 use Rattle.verdict.specs.Lent.{filled}
+use Rattle.verdict.proofs.LentLaws.{filled-first, filled-behind}
 use Rattle.listing.specs.Endings.{Ending, writes, refuses, within, written}
 use Rattle.output.specs.declared.Written.{Written}
 use Rattle.output.specs.Writing.{writtenOf}
@@ -57,14 +57,6 @@ module _ (e : Ending) (old : List ℕ) where
     ends-written h g n = as-it-ends (writes bs) (roomy (length old) i h) g n
 
 -- ---- what the statement comes to
-
--- n bytes at the start of an output were written
-module _ (bs old : List ℕ) {n : ℕ} {new : List ℕ} (l : n ≡ length bs) (f : new ≡ filled bs old) where
-  pub filled-first : take n new ≡ bs
-  filled-first = ap (take n) f ∙ take-at bs (drop (length bs) old) n (sym l)
-
-  pub filled-behind : drop n new ≡ drop n old
-  filled-behind = ap (drop n) f ∙ drop-at bs (drop (length bs) old) n (sym l) ∙ ap (λ k. drop k old) (sym l)
 
 -- a refusal has one of these numbers
 abbrev pub RefusedWith : List ℕ → Ending → Type 0

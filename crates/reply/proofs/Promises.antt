@@ -15,6 +15,7 @@ use borrow.Author.Tests.{leb-true}
 use Rattle.form.specs.Kind.{numeral}
 use Rattle.verdict.specs.declared.Verdict.{Verdict}
 use Rattle.verdict.specs.Verdicts.{refusing}
+use Rattle.verdict.proofs.LentLaws.{filled-first, filled-behind}
 use Rattle.document.specs.Values.{Document}
 use Rattle.document.specs.Rules.{Legal}
 use Rattle.diskette.specs.Writing.{write, Acceptable}
@@ -27,7 +28,7 @@ use Rattle.listing.proofs.Promises.{listing-composes}
 use Rattle.lister.proofs.ListingLaws.{listed-as, listing-short}
 use Rattle.lister.proofs.ListLaws.{else-refused}
 use Rattle.composer.proofs.CallLaws.{made-ends, denied-ends}
-use Rattle.output.proofs.EndingLaws.{too-short, stays-refused, filled-first, filled-behind}
+use Rattle.output.proofs.EndingLaws.{too-short, stays-refused}
 use Rattle.reply.specs.Reply.{digitsWithin, refusalLine, printed, limited, fitting, reply, listReply, makeReply}
 use Rattle.reply.proofs.LineLaws.{Says, fits, line-short}
 use Rattle.reply.proofs.ReplyLaws.{reply-too-long, reply-refused, reply-written}
