@@ -3,18 +3,15 @@
 -- first field turns out: refused, E's length, a length of C (`first-fails`, `first-end`, `first-payment`). The answer owed counts all payments
 -- of the file; behind A, and behind each payment, it is told anew as what the payments still to come add to the totals so far (`behind-header`,
 -- `payment-more`, by `retold` and the laws of `together`). E adds none (`end-read`).
-use Prim.Native.Nat.{ℕ, zero, suc, _+_, _<_}
+use Prim.Native.Nat.{ℕ, zero, suc, _+_}
 use mathlib.Core.Path.{_≡_, refl, sym, ap, _∙_}
-use mathlib.Core.Logic.{inl, inr}
 use mathlib.Core.List.{List, [], _∷_}
-use lib.Dec.{ltb, eqb, ltb→lt, eqb→eq}
 use borrow.Author.Tests.{eq-eqb, ne-eqb}
 use Rattle.form.specs.Kind.{digits}
 use Rattle.form.specs.Form.{Form, ret, _>>=_}
 use Rattle.form.specs.Reader.{has}
 use Rattle.form.specs.Place.{fieldAt, done, readAt}
-use Rattle.form.proofs.BoolLaws.{or-cases}
-use Rattle.form.proofs.FilledLaws.{field-content, read-filled}
+use Rattle.form.proofs.FilledLaws.{read-filled}
 use Rattle.document.specs.Values.{Header, Payment, Totals, noTotals, adding, totals}
 use Rattle.document.specs.Rules.{mostPayments}
 use Rattle.document.proofs.SumLaws.{together-none, together-nothing, together-more}
@@ -51,14 +48,6 @@ behind-header f h w =
     (λ ps q. ap (λ t. fileOf t q) (sym (together-none (totals ps)))) (λ x. refl) w
 
 -- ---- the first field after A or a payment
-
--- a length of C is read only where a payment may begin
-pub may-begin : (t : Totals) (f : List ℕ) (p l : ℕ) → fieldAt (digits 4) (firstField t) f p ≡ has l → (l ≡ 128 → ⊥) → t .count < mostPayments
-may-begin t f p l e n =
-    elim (or-cases (eqb l 128) (ltb (t .count) mostPayments) (field-content (digits 4) (firstField t) f p l e .1 .1 .0)) [
-      | inl h ↦ absurd (n (eqb→eq l 128 h))
-      | inr h ↦ ltb→lt (t .count) mostPayments h
-    ]
 
 -- what follows a payment
 abbrev pub behindPayment : List ℕ → Totals → ℕ → Payment → Form Name (List Payment)

@@ -7,10 +7,12 @@ use Rattle.form.specs.Kind.{digits}
 use Rattle.form.specs.Form.{_>>=_}
 use Rattle.form.specs.Reader.{has}
 use Rattle.form.specs.Place.{fieldAt, done, readAt}
+use Rattle.form.proofs.FilledLaws.{field-content}
 use Rattle.document.specs.Values.{noTotals}
 use Rattle.document.specs.Values as values
 use Rattle.document.specs.Rules.{mostPayments}
 use Rattle.diskette.specs.Fields.{header, payment, end, firstField, payments, behindHeader}
+use Rattle.diskette.proofs.EndSays.{may-begin}
 use Rattle.fields.specs.declared.Refusal.{Refusal}
 use Rattle.fields.specs.declared.FileKind.{FileKind}
 use Rattle.fields.specs.Answers.{ofRead, kindOf, lettersOf}
@@ -29,7 +31,7 @@ use Rattle.payment.proofs.Laws.{payments-told, payment-is}
 use Rattle.checker.specs.declared.FileRead.{FileRead}
 use Rattle.checker.specs.declared.FileRead.the-variants as file
 use Rattle.checker.specs.Checking.{restOn}
-use Rattle.checker.proofs.Laws.{owed, from-the-start, behind-header, may-begin, first-fails, first-end, behindPayment, first-payment, payment-more}
+use Rattle.checker.proofs.Laws.{owed, from-the-start, behind-header, first-fails, first-end, behindPayment, first-payment, payment-more}
 
 -- of the file that begins at `begin` so many payments were read, which come to these sums; its rest stands at p
 pub record Turn (f : List ℕ) (begin : ℕ) (kind : FileKind) (count : ℕ) (sums : Sums) (p : ℕ) : Type 0 where
@@ -66,7 +68,7 @@ module _ {f : List ℕ} {begin : ℕ} {kind : FileKind} {count : ℕ} {sums : Su
     module _ (n : l ≡ 128 → ⊥) where
       -- a payment comes
       pub one-more : count < mostPayments
-      one-more = may-begin (totalsOf count sums) f p l s.0 n
+      one-more = let t = totalsOf count sums in may-begin t l n (field-content (digits 4) (firstField t) f p l s.0 .1)
 
       comes : Walk (restOn (totalsOf count sums)) f (owed f begin)
           (payment (lettersOf kind) (totalsOf count sums) l >>= behindPayment (lettersOf kind) (totalsOf count sums) (mostPayments - (count + 1))) q

@@ -7,7 +7,7 @@ use mathlib.Core.List.{[]}
 use lib.Dec.{T, leb, ltb, eqb, leb→le, ltb→lt, le→leb, lt→ltb, eqb→eq, eqb-refl}
 use borrow.Author.Tests.{ne-eqb}
 use Rattle.form.specs.Form.{Holds, Filled, value, bytes}
-use Rattle.form.proofs.BoolLaws.{and-of, or-left, or-first}
+use Rattle.form.proofs.BoolLaws.{and-of, or-left, or-first, or-other}
 use Rattle.form.proofs.RulesLaws.{_▸_, ok, Filling}
 use Rattle.document.specs.Values.{Totals}
 use Rattle.document.specs.Rules.{mostPayments, mostCents, sumLimit}
@@ -74,6 +74,11 @@ payment-begins t k h n c =
 
 pub end-some : (t : Totals) (l : ℕ) → l ≡ 128 → Holds (firstField t l) → 1 ≤ t .count
 end-some t l e h = leb→le 1 (t .count) (or-first (leb 1 (t .count)) (rw e at (h .0)))
+
+-- a C may begin only below the most payments there are
+pub may-begin : (t : Totals) (l : ℕ) → (l ≡ 128 → ⊥) → Holds (firstField t l) → t .count < mostPayments
+may-begin t l n h =
+    ltb→lt (t .count) mostPayments (or-other (eqb l 128) (ltb (t .count) mostPayments) (rw (ne-eqb l 128 n) tt) (h .1 .0))
 
 -- after the most payments there are, only E may begin
 pub must-end : (t : Totals) (l : ℕ) → mostPayments ≤ t .count → Holds (firstField t l) → l ≡ 128

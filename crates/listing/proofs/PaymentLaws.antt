@@ -6,28 +6,24 @@
 use Prim.Native.Nat.{ℕ, suc, _*_, _^_, _≤_, _<_}
 use native.Mathlib.Omega.{arith}
 use mathlib.Core.Path.{_≡_, refl, sym, ap, _∙_, subst}
-use mathlib.Core.Bool.{not}
 use mathlib.Core.List.{List, [], _∷_, _++_, map, append-assoc, append-nil}
 use lib.ListN.{length, take, drop}
 use lib.Seq.{take-at}
-use lib.Dec.{T, ltb, eqb, ltb→lt, lt→ltb}
-use borrow.Author.Tests.{ne-eqb}
+use lib.Dec.{T, ltb→lt, lt→ltb}
 use Rattle.form.specs.Kind.{numeral, blanks}
-use Rattle.form.specs.Form.{Holds, Filled, value, bytes}
+use Rattle.form.specs.Form.{Filled, value, bytes}
 use Rattle.form.specs.Reader.{number}
 use Rattle.form.proofs.BelowLaws.{below, agree}
-use Rattle.form.proofs.BoolLaws.{or-other}
 use Rattle.form.proofs.KindLaws.{numeral-length, number-numeral}
 use Rattle.form.proofs.RulesLaws.{_▸_, Filling, Told, Says}
 use Rattle.document.specs.Signs.{ascii}
 use Rattle.document.specs.Values.{Part, Payment, Totals}
 use Rattle.document.specs.Rules.{All, Text, mostPayments, LegalPayment}
 use Rattle.diskette.specs.Writing.{section, toSectionEnd, toNextPart, lengthOf, writeParts, writeBody, writePayment}
-use Rattle.diskette.specs.Fields.{firstField}
 use Rattle.document.proofs.FieldLaws.{key-fits}
 use Rattle.diskette.proofs.PartsSays.{markOf}
 use Rattle.diskette.proofs.PaymentSays.{GoodPayment, few-parts, payment-says}
-use Rattle.diskette.proofs.EndSays.{payment-begins}
+use Rattle.diskette.proofs.EndSays.{payment-begins, may-begin}
 use Rattle.diskette.proofs.GoodLaws.{below-top}
 use Rattle.listing.specs.Lines.{tab, lineEnd}
 use Rattle.listing.specs.Listing.{partFields, paymentFields}
@@ -126,12 +122,6 @@ module _ (kind : List ℕ) (t : Totals) where
       let f = payment-says kind t l .fill q g in
       (((l, lt→ltb l (10 ^ 4) (omega arith), payment-begins t k few (n .may) (below-top g)), f.0), f.1, ap (λ (b : List ℕ). numeral 4 l ++ b) f.2)
 
-  -- no length of C is that of E, so that the limit of payments is looked at
-  may-begin : (l k : ℕ) → lengthOf k ≡ l → Holds (firstField t l) → t .count < mostPayments
-  may-begin l k e h =
-      let no : T (not (eqb l 128)) = rw (ne-eqb l 128 (omega arith)) tt in
-      ltb→lt (t .count) mostPayments (or-other (eqb l 128) (ltb (t .count) mostPayments) no (h .1 .0))
-
   next-told : (r : Filled (wholePayment kind t)) → Told (Next kind t) writePayment (value (wholePayment kind t) r) (bytes (wholePayment kind t) r)
   next-told r =
       let l : ℕ = r .0 .0 in
@@ -140,7 +130,7 @@ module _ (kind : List ℕ) (t : Totals) where
       let g = d.1 in (
         q,
         record {
-          may = may-begin l (length (q .parts)) (g .long) (r .0 .2);
+          may = may-begin t l (λ e. omega (arith, g .long, e)) (r .0 .2);
           good = subst (λ (n : ℕ). GoodPayment kind t n q) (sym (g .long)) g;
         },
         d.2,
