@@ -5,7 +5,6 @@ pub mod WideLaws
 pub mod LayLaws
 pub mod OwnLaws
 pub mod PutLaws
-pub mod HeardLaws
 pub mod ToldLaws
 pub mod StepLaws
 pub mod ReadingLaws

@@ -1,25 +1,41 @@
--- What the code tells of the line of A and of the line of a payment.
--- The code goes as composing is defined: the form first, then the record that the line stands for is laid out and read. So there is one law for
--- a line without its form, one for a record that is refused and one for a record that is read, for A and for a payment, by `line-denied`,
--- `line-refuses` and `line-heard`. A payment's record depends on the number of parts that its line tells (`as-told`), and that number gives its
--- bytes in the file too (`payment-accepts`).
+-- What the code tells of a line: of any line, of the line of A and of the line of a payment.
+-- The code goes as composing is defined: the form first, then the record that the line stands for is laid out and read, and a refused field is
+-- named where it stands in the line. So there is one law for a line without its form, one for a record that is refused and one for a record that
+-- is read (`line-denied`, `line-refuses`, `line-heard`), and A and a payment have theirs by these. A payment's record depends on the number of
+-- parts that its line tells (`as-told`), and that number gives its bytes in the file too (`payment-accepts`).
 use Prim.Native.Nat.{ℕ, _+_, _-_, _*_, _/_, _≤_, min}
 use native.Mathlib.Omega.{arith}
 use mathlib.Core.Path.{_≡_, refl, sym, ap, ap₂, _∙_}
 use mathlib.Core.Bool.{Bool, true, false, cond}
-use mathlib.Core.List.{List, _++_}
-use lib.ListN.{length, length-append}
+use mathlib.Core.List.{List, [], _∷_, _++_}
+use lib.ListN.{length, take, length-append}
 use lib.Dec.{leb}
 use Rattle.form.specs.Place.{readAt}
+use Rattle.form.specs.Kind.{same}
+use Rattle.form.specs.Form.{Form}
+use Rattle.form.proofs.BoolLaws.{T-of, and-both}
+use Rattle.form.proofs.KindLaws.{same-eq}
+use Rattle.verdict.specs.Verdicts.{refusing}
 use Rattle.document.specs.Signs.{ascii}
 use Rattle.document.specs.Marks.{mostParts}
 use Rattle.document.specs.Values.{Totals}
 use Rattle.diskette.specs.Writing.{section, writePayment}
-use Rattle.diskette.specs.Fields.{header}
+use Rattle.diskette.specs.Fields.{header, Name}
 use Rattle.diskette.proofs.LayoutLaws.{payment-length}
+use Rattle.listing.specs.Records.{recordA, recordC, fieldsOfHeaderLine, fieldsWith, partsOf, lay, Piece, cells}
+use Rattle.listing.specs.Composing.{made, heard, composeLine, wholePayment, composeHeader, composePayment, denied}
+use Rattle.listing.specs.Lines.{tab, behindTabs, split}
+use Rattle.listing.proofs.PaymentLaws.{payment-heard}
+use Rattle.listing.proofs.LineLaws.{line-from}
+use Rattle.listing.proofs.NumberLaws.{in-line}
+use Rattle.layout.specs.Lines as line
+use Rattle.layout.specs.Cells.{letterOf, cellsOf}
+use Rattle.layout.proofs.CellLaws.{fields-first, letter-long}
 use Rattle.fields.specs.declared.Refusal.{Refusal}
 use Rattle.fields.specs.declared.KindRead.the-variants as kind
-use Rattle.fields.specs.Answers.{refusalOf, ofRead, kindOf}
+use Rattle.fields.specs.Answers.{refusalOf, ofRead, kindOf, Telling}
+use Rattle.fields.proofs.WalkLaws.{Told, halts}
+use Rattle.sums.specs.declared.Sums.{Sums}
 use Rattle.header.specs.declared.Header.{Header}
 use Rattle.header.specs.declared.HeaderRead.{HeaderRead}
 use Rattle.header.specs.declared.HeaderRead.the-variants as headed
@@ -29,14 +45,41 @@ use Rattle.payment.specs.declared.PaymentRead.{PaymentRead}
 use Rattle.payment.specs.declared.PaymentRead.the-variants as payment
 use Rattle.payment.specs.Adding.{withPayment, paymentsOn, paymentWhy}
 use Rattle.payment.proofs.Laws.{payments-told, payment-is}
-use Rattle.sums.specs.declared.Sums.{Sums}
-use Rattle.listing.specs.Records.{recordA, recordC, fieldsOfHeaderLine, fieldsWith, partsOf, lay}
-use Rattle.listing.specs.Composing.{made, heard, composeLine, wholePayment, composeHeader, composePayment}
-use Rattle.listing.proofs.PaymentLaws.{payment-heard}
 use Rattle.composer.specs.declared.LaidPayment.the-variants as laid
-use Rattle.composer.specs.Telling.{lineFormed, behindLetter, placeIn, headTold, paymentTold}
-use Rattle.layout.proofs.CellLaws.{fields-first}
-use Rattle.composer.proofs.HeardLaws.{line-denied, line-heard, line-refuses}
+use Rattle.composer.specs.Telling.{lineFormed, behindLetter, placeIn, headTold, paymentTold, FormedLine, tells}
+
+-- ---- any line
+
+module _ {A : Type 0} (m : Form Name A) (head : Bool) (n p : ℕ) (ps : List Piece) (fields : cells 0 ps ≡ take n (cellsOf head)) where
+  pub line-denied : (ts : List (List ℕ)) → lineFormed head n ts ≡ false → composeLine m (letterOf head) ps p ts ≡ denied (refusing 17 p)
+  line-denied [] e = refl
+  line-denied (t ∷ ts) e = rw (fields, e)
+
+  pub line-heard : (ts : List (List ℕ)) → lineFormed head n ts ≡ true
+      → composeLine m (letterOf head) ps p ts ≡ heard ps (behindLetter ts) p (readAt m (lay ps (behindLetter ts)) 0)
+  line-heard [] e = absurd (T-of e)
+  line-heard (t ∷ ts) e = rw (fields, e)
+
+  -- a refused field, where it stands in the line
+  module _ {R S : Type 0} {u : Telling A S} {why : S → Refusal} (k : Told u why) {a : S} {x r z : Refusal} (gives : A → R) (refuses : Refusal → R)
+      (ts : List (List ℕ)) (e : lineFormed head n ts ≡ true) (told : a ≡ ofRead u (readAt m (lay ps (behindLetter ts)) 0)) where
+    pub line-refuses : a ≡ u .refuses x → r ≡ why a → z ≡ refusalOf (r .number) (p + placeIn head n ts (r .place))
+        → refuses z ≡ tells gives refuses (composeLine m (letterOf head) ps p ts)
+    line-refuses given w i =
+        let h = halts k (readAt m (lay ps (behindLetter ts)) 0) told given w in
+        rw (i, h.2) (sym (ap (tells gives refuses) (line-heard ts e ∙ ap (heard ps (behindLetter ts) p) h.1) ∙ rw fields))
+
+-- the place of a refused field lies in the line, or just behind it
+pub place-inside : (head : Bool) (n : ℕ) (x : List ℕ) (p : ℕ) → FormedLine head n x → placeIn head n (split tab x) p ≤ length x + 1
+place-inside head n x p f = by (split tab x) refl (f .1 .1)
+  where
+    by : (ts : List (List ℕ)) → split tab x ≡ ts → lineFormed head n ts ≡ true → placeIn head n ts p ≤ length x + 1
+    by [] e g = absurd (T-of g)
+    by (t ∷ ts) e g =
+        let i = in-line (take n (cellsOf head)) ts line.first p in
+        let l : length t + length (behindTabs ts) ≡ length x = sym (length-append t (behindTabs ts)) ∙ ap length (line-from x t ts e) in
+        let o : 1 ≡ length t = sym (letter-long head) ∙ ap length (same-eq (letterOf head) t (and-both (same (letterOf head) t) _ (T-of g) .0)) in
+        omega arith
 
 -- ---- A
 

@@ -8,7 +8,6 @@ use mathlib.Core.Option.{Option, none, some}
 use mathlib.Core.List.{List, [], _∷_, _++_}
 use lib.Dec.{T, eqb}
 use Rattle.form.specs.Kind.{oneOf}
-use Rattle.form.specs.Form.{Form}
 use Rattle.form.specs.Reader.{Reason, short, not-fixed, not-digit, not-sign, breaks, surplus, Refusal, refused, run}
 use Rattle.form.proofs.RulesLaws.{_▸_}
 use Rattle.form.proofs.NumberLaws.{one-within, NumberedRules, Numbered, numbered-bind, numbered-fork, numbered-within, number-given}

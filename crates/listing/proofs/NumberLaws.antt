@@ -15,7 +15,7 @@ use borrow.Author.Tests.{le-leb}
 use Rattle.form.specs.Kind.{digits, numeral, every, oneOf, same}
 use Rattle.form.specs.Form.{Form, rule}
 use Rattle.form.specs.Reader.{Reason, Refusal, Look, has, lacks, judge, obey, ifWhole, _then_}
-use Rattle.form.specs.Place.{Read, done, halt, goOn, lookAt, fieldAt, readAt}
+use Rattle.form.specs.Place.{Read, done, halt, goOn, lookAt, readAt}
 use Rattle.form.proofs.BoolLaws.{and-both, is-true, or-right}
 use Rattle.form.proofs.KindLaws.{same-eq, numeral-length, judge-spell}
 use Rattle.form.proofs.ReaderLaws.{obey-has}
@@ -25,7 +25,7 @@ use Rattle.verdict.specs.declared.Verdict.{Verdict}
 use Rattle.verdict.specs.Verdicts.{refusing, numberOf}
 use Rattle.verdict.specs.Numbers.{ofListing}
 use Rattle.document.specs.Signs.{ascii}
-use Rattle.document.specs.Values.{Payment, Document, Totals, noTotals, adding}
+use Rattle.document.specs.Values.{Document, Totals, noTotals, adding}
 use Rattle.document.specs.Rules.{mostPayments, mostCents}
 use Rattle.diskette.specs.Writing.{lengthOf}
 use Rattle.diskette.specs.Fields.{Name, C1-or-E1, header, payment, isLength, firstField}

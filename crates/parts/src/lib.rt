@@ -1,6 +1,5 @@
 // The extension parts of a payment, with the blanks that close its sections. Each part is handed on as a slice of its own.
 ghost use mathlib.Core.Path.{_≡_};
-ghost use Prim.Native.Nat.{ℕ};
 ghost use lib.ListN.{take, drop};
 ghost use Rattle.form.specs.Kind.{digits};
 ghost use Rattle.form.specs.Place.{lookAt, fieldAt, readAt};

@@ -4,7 +4,7 @@
 -- was read is the record laid out from the line (`read`). The last is the long one: a front part of the lent space is lent on to be written and
 -- then to be read, so its length has to be known at both (`within`, `long`, `laid-long`).
 -- Assumes nothing.
-use Prim.Native.Nat.{ℕ, _+_, _*_, _≤_, min}
+use Prim.Native.Nat.{ℕ, _*_, _≤_, min}
 use native.Mathlib.Omega.{arith}
 use mathlib.Core.Path.{_≡_, sym, ap, _∙_}
 use mathlib.Core.Bool.{false}

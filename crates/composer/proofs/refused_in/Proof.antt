@@ -5,7 +5,7 @@ use native.Mathlib.Omega.{arith}
 use mathlib.Core.Path.{ap, _∙_}
 use borrow.Author.Needs.{needs}
 use Rattle.fields.specs.Answers.{refusalOf}
-use Rattle.composer.proofs.HeardLaws.{place-inside}
+use Rattle.composer.proofs.ToldLaws.{place-inside}
 use Rattle.composer.proofs.refused_in.Statement.{statement}
 use Rattle.composer.proofs.refused_in.Tie as tie
 
