@@ -18,8 +18,8 @@ struct tally {
 
 // The numbers that the damage must have led to: all that a file, or a listing, can get but those of
 // too many payments and of too little room.
-static const uint8_t of_files[] = {1, 2, 3, 4, 5, 9, 10, 11, 12, 13, 14, 15};
-static const uint8_t of_listings[] = {2, 3, 4, 9, 10, 11, 12, 13, 17, 18};
+static const uint8_t of_files[] = {1, 2, 3, 4, 5, 9, 10, 11, 12, 13, 14, 15, 21};
+static const uint8_t of_listings[] = {2, 3, 4, 9, 10, 11, 12, 13, 17, 18, 21};
 
 // A hundred payments of the most cents are just acceptable; with A and E they take so many bytes.
 enum { RICH_FILE = 100 * 256 + 256 };
@@ -35,11 +35,12 @@ static uint8_t some_byte(struct chance *chance) {
     return likely[range(chance, sizeof likely - 1)];
 }
 
-// Half of the places are in the first or the last 128 bytes, where A and E are.
+// Half of the places are in the first 256 or the last 128 bytes, where A, the numbers of a payment
+// and E are.
 static size_t some_place(struct chance *chance, size_t length) {
     switch (range(chance, 4)) {
     case 0:
-        return range(chance, 128);
+        return range(chance, 256);
     case 1:
         return length - 1 - range(chance, 128);
     default:

@@ -61,7 +61,8 @@ static size_t mark_place(unsigned i) {
 // The fields of a payment ahead of its texts.
 static void put_numbers(uint8_t *c, struct chance *chance, uint64_t cents,
                         struct figures *figures) {
-    static const char *const keys[] = {"51000", "53000", "54010", "56000"};
+    static const char keys[][6] = {"51000", "51888", "53000", "53888",
+                                   "54010", "54888", "54999", "56000"};
     uint64_t bank_code = some_bank_code(chance);
     uint64_t account = some_account(chance);
     put(c + 4, "C");
@@ -69,7 +70,7 @@ static void put_numbers(uint8_t *c, struct chance *chance, uint64_t cents,
     put_number(c + 13, 8, bank_code);
     put_number(c + 21, 10, account);
     put_number(c + 31, 13, (uint64_t)range(chance, 100000000) * 10);
-    put(c + 44, keys[range(chance, 4)]);
+    put(c + 44, keys[range(chance, sizeof keys / sizeof keys[0])]);
     put_number(c + 50, 11, 0);
     put_number(c + 61, 8, some_bank_code(chance));
     put_number(c + 69, 10, some_account(chance));

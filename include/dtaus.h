@@ -32,14 +32,15 @@ extern "C" {
 #endif
 
 // The version of this header: one more with each change of an answer, a figure or a call.
-#define DTAUS_VERSION 1
+#define DTAUS_VERSION 2
 
 // The version of the header that belongs to the archive. A program that compares it with
 // DTAUS_VERSION knows that what it was compiled with and what it was linked with belong together.
 uint32_t dtaus_version(void);
 
 // The number that a call returns and puts into result[0]. Fields are examined in the order of the
-// input; the first that is wrong is named. No file reaches 7 or 8: 6 comes before.
+// input; the first that is wrong is named. No file reaches 7 or 8: 6 comes before. 20 is of the
+// programs alone, and no call gives it.
 enum dtaus_number {
     DTAUS_ACCEPTED = 0,         // done
     DTAUS_SHORT = 1,            // the file ends before the field is whole
@@ -56,16 +57,18 @@ enum dtaus_number {
     DTAUS_CONDITION = 11,       // C4 or C10 begins with 0 or 9; C5, C11 or C12 is zero; C14a or C15
                                 // is blank; C6 does not begin and end with 0; C18 is not as C1
                                 // tells; A5 is not zero in a customer's file (A3 ends in K)
-    DTAUS_NO_KEY = 12,      // C7a is no key of this kind of file: 51, 53, 54, 56 where A3 begins
-                            // with G, 04, 05 where it begins with L
-    DTAUS_NO_MARK = 13,     // the mark of an extension part cannot stand here
-    DTAUS_NOT_COUNTED = 14, // a figure of E is not the counted one
-    DTAUS_SURPLUS = 15,     // bytes follow E; the place is the first of them
-    DTAUS_NO_ROOM = 16,     // the input is accepted, but a column or the output is too short;
-                            // or, ahead of all else, the result is too short
-    DTAUS_NO_LINE = 17,     // a line of the listing has not its form; the place is its start
-    DTAUS_ENDS_EARLY = 18,  // the listing has no line of A, or of a payment; place: its end
-    DTAUS_NO_SUCH = 19      // the file is accepted, but has no such payment, or it no such part
+    DTAUS_NO_KEY = 12,       // C7a is no key of this kind of file: 51, 53, 54, 56 where A3 begins
+                             // with G, 04, 05 where it begins with L
+    DTAUS_NO_MARK = 13,      // the mark of an extension part cannot stand here
+    DTAUS_NOT_COUNTED = 14,  // a figure of E is not the counted one
+    DTAUS_SURPLUS = 15,      // bytes follow E; the place is the first of them
+    DTAUS_NO_ROOM = 16,      // the input is accepted, but a column or the output is too short;
+                             // or, ahead of all else, the result is too short
+    DTAUS_NO_LINE = 17,      // a line of the listing has not its form; the place is its start
+    DTAUS_ENDS_EARLY = 18,   // the listing has no line of A, or of a payment; place: its end
+    DTAUS_NO_SUCH = 19,      // the file is accepted, but has no such payment, or it no such part
+    DTAUS_NO_SUPPLEMENT = 21 // C7b is no supplement of its key C7a: 000 and 888 with 04, 51, 53;
+                             // 000, 888, 005, 006, 015 with 05; 000 with 56; any with 54
 };
 
 // How many figures the layout of each result has.
@@ -87,7 +90,8 @@ enum dtaus_number {
 // result[0] number, [1] place, [2] count of payments, [3] sum of account numbers (C5), [4] sum of
 // bank codes (C4), [5] sum of cents (C12). The sums are added up from the payments.
 //
-// Refuses with 16 where the result is too short; then with 1 to 15. It writes to `result` alone.
+// Refuses with 16 where the result is too short; then with 1 to 15 or 21. It writes to `result`
+// alone.
 uint8_t dtaus_check(const uint8_t *file, size_t file_length, uint64_t *result,
                     size_t result_length);
 
@@ -100,8 +104,8 @@ uint8_t dtaus_check(const uint8_t *file, size_t file_length, uint64_t *result,
 //
 // result: as of dtaus_check.
 //
-// Refuses with 16 where the result is too short; then with 1 to 15; then with 16 at 0 where a column
-// is too short. Columns then stay as they were.
+// Refuses with 16 where the result is too short; then with 1 to 15 or 21; then with 16 at 0 where a
+// column is too short. Columns then stay as they were.
 uint8_t dtaus_load(const uint8_t *file, size_t file_length, uint64_t *bank_codes,
                    size_t bank_codes_length, uint64_t *accounts, size_t accounts_length,
                    uint64_t *cents, size_t cents_length, uint64_t *starts, size_t starts_length,
@@ -117,8 +121,8 @@ uint8_t dtaus_load(const uint8_t *file, size_t file_length, uint64_t *bank_codes
 //
 // result[0] number, [1] place, [2] length of the listing. Output behind that is never touched.
 //
-// Refuses with 16 where the result is too short; then with 1 to 15; then with 16 at 0 where the
-// output is too short. The output then stays as it was.
+// Refuses with 16 where the result is too short; then with 1 to 15 or 21; then with 16 at 0 where
+// the output is too short. The output then stays as it was.
 uint8_t dtaus_list(const uint8_t *file, size_t file_length, uint8_t *output, size_t output_length,
                    uint64_t *result, size_t result_length);
 
@@ -132,7 +136,7 @@ uint8_t dtaus_list(const uint8_t *file, size_t file_length, uint8_t *output, siz
 // touched.
 //
 // Refuses with 16 where the result is too short; then line by line: with 17 at the line's start;
-// with 6 or 9 there, where no payment may begin; with 2, 3, 4 and 9 to 13 at the field in the
+// with 6 or 9 there, where no payment may begin; with 2, 3, 4, 9 to 13 and 21 at the field in the
 // listing. Then with 18 at the listing's end; then with 16 at 0 where the output is too short. The
 // output then stays as it was.
 uint8_t dtaus_compose(const uint8_t *listing, size_t listing_length, uint8_t *output,
@@ -143,8 +147,8 @@ uint8_t dtaus_compose(const uint8_t *listing, size_t listing_length, uint8_t *ou
 // result[0] number, [1] place, [2] from: the payment's first byte, [3] to: the end of the file. So
 // file[from..to) is the payment and all that follows it.
 //
-// Refuses with 16 where the result is too short; then with 1 to 15; then with 19 at 0 where the file
-// has no such payment. It writes to `result` alone.
+// Refuses with 16 where the result is too short; then with 1 to 15 or 21; then with 19 at 0 where
+// the file has no such payment. It writes to `result` alone.
 uint8_t dtaus_find(const uint8_t *file, size_t file_length, size_t payment, uint64_t *result,
                    size_t result_length);
 
@@ -155,8 +159,8 @@ uint8_t dtaus_find(const uint8_t *file, size_t file_length, size_t payment, uint
 // result[0] number, [1] place, [2] from, [3] to: the text is file[from..to), always 27 bytes, with
 // its closing blanks.
 //
-// Refuses with 16 where the result is too short; then with 1 to 15; then with 19 at 0 where no
-// payment of the file begins at start, or it has no such part. It writes to `result` alone.
+// Refuses with 16 where the result is too short; then with 1 to 15 or 21; then with 19 at 0 where
+// no payment of the file begins at start, or it has no such part. It writes to `result` alone.
 uint8_t dtaus_text(const uint8_t *file, size_t file_length, size_t start, size_t wanted,
                    uint64_t *result, size_t result_length);
 

@@ -43,14 +43,14 @@ static inline struct refusal check_parts_told(const uint8_t *listing, const stru
 static inline struct refusal check_payment_line(const uint8_t *listing, const struct line *line,
                                                 struct kind kind, struct totals *totals) {
     const struct told *c = line->fields;
-    uint64_t unused;
+    uint64_t unused, its_key;
     TOLD(c[0], next_payment(totals));
     TOLD(c[1], any_digits(c[1].bytes, 8));
     TOLD(c[2], add_bank_code(c[2].bytes, totals));
     TOLD(c[3], add_account(c[3].bytes, totals));
     TOLD(c[4], customer_number(c[4].bytes));
-    TOLD(c[5], key(c[5].bytes, kind));
-    TOLD(c[6], any_digits(c[6].bytes, 3));
+    TOLD(c[5], key(c[5].bytes, kind, &its_key));
+    TOLD(c[6], supplement(c[6].bytes, its_key));
     TOLD(c[7], bank_code(c[7].bytes, &unused));
     TOLD(c[8], account(c[8].bytes, &unused));
     TOLD(c[9], add_cents(c[9].bytes, totals));

@@ -3,14 +3,14 @@
 
 static inline struct refusal check_first_section(const uint8_t *c, size_t have, struct kind kind,
                                                  struct totals *totals) {
-    uint64_t unused;
+    uint64_t unused, its_key;
     FIELD(C2, 1, fixed(c + C2, "C", 1));
     FIELD(C3, 8, any_digits(c + C3, 8));
     FIELD(C4, 8, add_bank_code(c + C4, totals));
     FIELD(C5, 10, add_account(c + C5, totals));
     FIELD(C6, 13, customer_number(c + C6));
-    FIELD(C7A, 2, key(c + C7A, kind));
-    FIELD(C7B, 3, any_digits(c + C7B, 3));
+    FIELD(C7A, 2, key(c + C7A, kind, &its_key));
+    FIELD(C7B, 3, supplement(c + C7B, its_key));
     FIELD(C8, 1, blanks(c + C8, 1));
     FIELD(C9, 11, zeros(c + C9, 11));
     FIELD(C10, 8, bank_code(c + C10, &unused));

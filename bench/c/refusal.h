@@ -24,6 +24,7 @@ enum number {
     NO_ROOM = 16,
     NO_LINE = 17,
     ENDS_EARLY = 18,
+    NO_SUPPLEMENT = 21,
 };
 
 // The place is counted from the first byte of the file or listing, or of the record where a record

@@ -90,13 +90,24 @@ static inline enum number customer_number(const uint8_t *field) {
 }
 
 // C7a.
-static inline enum number key(const uint8_t *field, struct kind kind) {
-    uint64_t key;
-    if (digits(field, 2, &key) != ACCEPTED)
+static inline enum number key(const uint8_t *field, struct kind kind, uint64_t *key) {
+    if (digits(field, 2, key) != ACCEPTED)
         return NO_DIGIT;
     if (kind.credit)
-        return key == 51 || key == 53 || key == 54 || key == 56 ? ACCEPTED : NO_KEY;
-    return key == 4 || key == 5 ? ACCEPTED : NO_KEY;
+        return *key == 51 || *key == 53 || *key == 54 || *key == 56 ? ACCEPTED : NO_KEY;
+    return *key == 4 || *key == 5 ? ACCEPTED : NO_KEY;
+}
+
+// C7b, behind a key that passed: every key takes 000, all but 56 take 888, 05 also takes 005, 006
+// and 015, and 54 takes anything. Joined without branches, as the order of keys cannot be foreseen.
+static inline enum number supplement(const uint8_t *field, uint64_t key) {
+    uint64_t value;
+    if (digits(field, 3, &value) != ACCEPTED)
+        return NO_DIGIT;
+    bool only_05 = (value == 5) | (value == 6) | (value == 15);
+    bool taken =
+        (value == 0) | (key == 54) | ((value == 888) & (key != 56)) | (only_05 & (key == 5));
+    return taken ? ACCEPTED : NO_SUPPLEMENT;
 }
 
 // The mark of a part, where so many parts are still to come: never descending, 01 and 03 once, 02

@@ -21,11 +21,12 @@ static const char *const reasons[] = {
     [DTAUS_NOT_COUNTED] = "the trailer's figure is not the counted one",
     [DTAUS_SURPLUS] = "bytes follow the trailer",
     [DTAUS_NO_ROOM] = "a lent column is too short",
+    [DTAUS_NO_SUPPLEMENT] = "the supplement is none that goes with the key",
 };
 
-// A later library may have numbers that the table lacks.
+// The table lacks the numbers that only other calls give, and those that a later library may have.
 const char *reason(uint8_t number) {
-    if (number >= sizeof reasons / sizeof reasons[0]) {
+    if (number >= sizeof reasons / sizeof reasons[0] || reasons[number] == NULL) {
         return "a reason that this loader has no words for";
     }
     return reasons[number];

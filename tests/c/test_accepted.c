@@ -8,8 +8,8 @@
 #include "payments.h"
 #include "tests.h"
 
-// Where C14a, C15 and C16 stand in a payment.
-enum { C14A = 93, C15 = 128, C16 = 155 };
+// Where A3 stands in A, and C7a, which C7b follows, C14a, C15 and C16 in a payment.
+enum { A3 = 5, C7A = 44, C14A = 93, C15 = 128, C16 = 155 };
 
 static void expect_totals(const struct answer *answer, const struct payments *payments) {
     uint64_t accounts = 0, bank_codes = 0, cents = 0;
@@ -145,6 +145,29 @@ static void test_printed_listing(const struct samples *samples) {
     expect_output(&composed, &samples->m);
 }
 
+static void test_file(const char *name, const struct bytes *file) {
+    test_check_and_load(name, file);
+    test_find(name, file);
+    test_texts(name, file);
+    test_there_and_back(name, file);
+}
+
+// Case M with other keys and supplements that go with them.
+static void test_supplements(const struct samples *samples) {
+    static const struct {
+        const char *kind;
+        const char *key_and_supplement;
+    } pairs[] = {{"LK", "04888"}, {"LK", "05005"}, {"LK", "05006"}, {"LK", "05015"},
+                 {"GK", "51888"}, {"GK", "53000"}, {"GK", "54999"}, {"GK", "56000"}};
+    static struct bytes file;
+    for (size_t i = 0; i < sizeof pairs / sizeof pairs[0]; i++) {
+        file = samples->m;
+        put(&file, A3, pairs[i].kind);
+        put(&file, M_PAYMENT + C7A, pairs[i].key_and_supplement);
+        test_file(pairs[i].key_and_supplement, &file);
+    }
+}
+
 void test_accepted(const struct samples *samples) {
     const struct {
         const char *name;
@@ -155,10 +178,7 @@ void test_accepted(const struct samples *samples) {
     test_printed_figures(samples);
     test_printed_texts(samples);
     test_printed_listing(samples);
-    for (size_t i = 0; i < sizeof files / sizeof files[0]; i++) {
-        test_check_and_load(files[i].name, files[i].file);
-        test_find(files[i].name, files[i].file);
-        test_texts(files[i].name, files[i].file);
-        test_there_and_back(files[i].name, files[i].file);
-    }
+    for (size_t i = 0; i < sizeof files / sizeof files[0]; i++)
+        test_file(files[i].name, files[i].file);
+    test_supplements(samples);
 }

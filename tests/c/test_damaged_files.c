@@ -28,6 +28,10 @@ static const struct damage damages[] = {
     {149, "0000000000", DTAUS_CONDITION, 149, "C5 is zero"},
     {171, "1", DTAUS_CONDITION, 159, "C6 ends with 1"},
     {172, "05", DTAUS_NO_KEY, 172, "C7a is the key of a debit"},
+    {172, "55051", DTAUS_NO_KEY, 172, "C7a is no key, C7b no supplement"},
+    {174, "0X1", DTAUS_NO_DIGIT, 174, "C7b has a letter"},
+    {176, "1", DTAUS_NO_SUPPLEMENT, 174, "C7b, its last byte"},
+    {172, "56888", DTAUS_NO_SUPPLEMENT, 174, "C7b is 888, C7a 56"},
     {178, "1", DTAUS_NOT_FIXED, 178, "C9 is not zero"},
     {217, "X", DTAUS_NO_DIGIT, 207, "C12 has a letter, its last byte"},
     {207, "00000000000", DTAUS_CONDITION, 207, "C12 is zero"},
@@ -84,6 +88,17 @@ static void test_changed(const struct samples *samples) {
         put(&file, damages[i].place, damages[i].bytes);
         expect_refused(&file, damages[i].number, damages[i].refused_at, damages[i].what);
     }
+}
+
+// In a file of debits 05 takes supplements that 04 does not.
+static void test_debits(const struct samples *samples) {
+    static struct bytes file;
+    file = samples->m;
+    put(&file, 5, "LK");
+    put(&file, 172, "05051");
+    expect_refused(&file, DTAUS_NO_SUPPLEMENT, 174, "C7b is the mistyped 051, C7a 05");
+    put(&file, 172, "04005");
+    expect_refused(&file, DTAUS_NO_SUPPLEMENT, 174, "C7b is 005, C7a 04");
 }
 
 static void test_cut(const struct samples *samples) {
@@ -150,6 +165,7 @@ static void test_next_payment(const struct samples *samples) {
 
 void test_damaged_files(const struct samples *samples) {
     test_changed(samples);
+    test_debits(samples);
     test_cut(samples);
     test_surplus(samples);
     test_cents(samples);

@@ -22,6 +22,10 @@ static const struct damage changed[] = {
     {76, "3005002X", DTAUS_NO_DIGIT, 76, "C4 has a letter"},
     {83, " ", DTAUS_NO_LINE, 65, "C4 ends in a blank"},
     {110, "05", DTAUS_NO_KEY, 110, "C7a is the key of a debit"},
+    {110, "55\t051", DTAUS_NO_KEY, 110, "C7a is no key, C7b no supplement"},
+    {113, "0X1", DTAUS_NO_DIGIT, 113, "C7b has a letter"},
+    {113, "889", DTAUS_NO_SUPPLEMENT, 113, "C7b is 889"},
+    {110, "56\t888", DTAUS_NO_SUPPLEMENT, 113, "C7b is 888, C7a 56"},
     {CENTS, "00000000000", DTAUS_CONDITION, CENTS, "C12 is zero"},
     {149, "m", DTAUS_NO_SIGN, 149, "C14a has a small letter"},
     {154, "\t", DTAUS_NO_LINE, 65, "C14a has a tab"},
@@ -61,6 +65,17 @@ static void test_damages(const struct samples *samples) {
         insert(&listing, inserted[i].place, inserted[i].bytes);
         expect_refused(&listing, inserted[i].number, inserted[i].refused_at, inserted[i].what);
     }
+}
+
+// In a listing of debits 05 takes supplements that 04 does not.
+static void test_debits(const struct samples *samples) {
+    static struct bytes listing;
+    listing = samples->listing;
+    put(&listing, 2, "LK");
+    put(&listing, 110, "05\t051");
+    expect_refused(&listing, DTAUS_NO_SUPPLEMENT, 113, "C7b is the mistyped 051, C7a 05");
+    put(&listing, 110, "04\t005");
+    expect_refused(&listing, DTAUS_NO_SUPPLEMENT, 113, "C7b is 005, C7a 04");
 }
 
 // A line that is not ended has not its form; whole lines that are too few end early.
@@ -106,6 +121,7 @@ static void test_exchanged(const struct samples *samples) {
 
 void test_damaged_listings(const struct samples *samples) {
     test_damages(samples);
+    test_debits(samples);
     test_cut(samples);
     test_cents(samples);
     test_exchanged(samples);

@@ -16,6 +16,8 @@ void test_header(void) {
     begin("the numbers have their names");
     for (size_t i = 0; i < sizeof in_order / sizeof in_order[0]; i++)
         expect_equal((uint64_t)in_order[i], i, "the number of a name");
+    // 20 is given by the programs alone, and has no name.
+    expect_equal(DTAUS_NO_SUPPLEMENT, 21, "the number of a name");
     begin("header and archive belong together");
     expect_equal(dtaus_version(), DTAUS_VERSION, "the version of the archive");
 }

@@ -8,9 +8,9 @@ from pathlib import Path
 
 from .case_m import CASE_M
 from .document import Document, Part
-from .expected import line
+from .expected import line, refused
 from .layout import TEXT_WIDTH
-from .requests import LIST, NAME_OF_CALL, TEXT_OF_FIELD, VIEW, Request
+from .requests import LIST, NAME_OF_CALL, TEXT_OF_FIELD, Request
 from .sides import PROGRAMS, Side
 
 ESCAPES = {"\\t": "\t", "\\n": "\n", "\\r": "\r", "\\s": " "}
@@ -37,7 +37,7 @@ def read_cases(table: Path) -> Iterator[Case]:
 
 
 def document_of(base: str) -> Document:
-    """Case M, or case M with other days, other marks, other amounts or more payments."""
+    """Case M, or case M with other days, another key, other marks, other amounts or more payments."""
     payment = CASE_M.payments[0]
     match base.split():
         case ["file" | "lines"]:
@@ -45,6 +45,9 @@ def document_of(base: str) -> Document:
         case ["days", created, execution]:
             days = {"created": date.fromisoformat(created), "execution": date.fromisoformat(execution)}
             return replace(CASE_M, header=replace(CASE_M.header, **days))
+        case ["key", kind, key, supplement]:
+            header = replace(CASE_M.header, kind=kind.encode())
+            return Document(header, (replace(payment, key=int(key), supplement=int(supplement)),))
         case ["marks", *marks]:
             parts = tuple(Part(mark, payment.parts[0].text) for mark in repeated(marks))
             return replace(CASE_M, payments=(replace(payment, parts=parts),))
@@ -142,9 +145,6 @@ def answer_to(request: Request, answer: str) -> bytes:
             start, end = borders.split(" to ")
             return line(0, 0, int(start), int(end))
         case [number, place]:
-            figures = int(number), int(place), 0
-            if request.call in (LIST, VIEW):
-                return line(*figures) + request.lent + b"\n"
-            return line(*figures, 0)
+            return refused(request, int(number), int(place))
         case _:
             raise ValueError(f"no such answer: {answer}")

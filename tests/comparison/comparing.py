@@ -159,11 +159,16 @@ def answer_at(request: Request, ours: bytes, second: bytes, place: int) -> Answe
 
 
 def expected_print(given: Input, program: str) -> bytes | None:
-    """What a program must print: 20 for an input too long, and the document's other form for a valid one."""
+    """What a program must print: 20 for an input too long, and the document's other form for a valid one.
+
+    For a damaged one it is the refusal that the model knows; for other inputs, and those of the other form,
+    it knows nothing.
+    """
     if len(given.data) > expected.MOST_INPUT:
         return expected.refused_for_length()
-    if not given.valid:
+    if (program == "dtlist") != (given.form is Form.FILE):
         return None
-    if program == "dtlist":
-        return expected.printed(given.base.listing.data) if given.form is Form.FILE else None
-    return expected.printed(given.base.file.data) if given.form is Form.LISTING else None
+    if given.refusal:
+        return expected.line(*given.refusal)
+    other = given.base.listing if given.form is Form.FILE else given.base.file
+    return expected.printed(other.data) if given.valid else None

@@ -5,6 +5,7 @@ from datetime import date, timedelta
 
 from .document import Header, Placed
 from .layout import MOST_PARTS, Kind, base_name, length_of_payment, number
+from .shapes import NAMED_SUPPLEMENTS
 
 Named = tuple[str, bytes]
 
@@ -37,6 +38,7 @@ CONTENTS_OF_FIELD = {
     "A3": (b"GK", b"LK", b"GB", b"LB", b"GX", b"XK", b"KG", b"gk", b"LG", b"G "),
     "C1": LENGTHS + OTHER_LENGTHS,
     "C7a": (b"04", b"05", b"51", b"53", b"54", b"56", b"00", b"06", b"09", b"50", b"52", b"55", b"57"),
+    "C7b": tuple(number(named, 3) for named in NAMED_SUPPLEMENTS) + (b"051",),
     "C18": tuple(number(parts, 2) for parts in range(MOST_PARTS + 2)) + (b"99",),
     "E1": LENGTHS + OTHER_LENGTHS,
     "mark": (b"00", b"01", b"02", b"03", b"04", b"99"),

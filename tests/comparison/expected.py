@@ -1,11 +1,14 @@
 """The answers that the model itself gives for its documents: without them both sides could be wrong alike."""
 
 from .document import Document, payment_contents
-from .requests import Column
+from .requests import CHECK, COMPOSE, FIND, HAND, LIST, LOAD, VIEW, Column, Request
 
 TOO_SHORT = 16
 NOT_THERE = 19
 TOO_LONG = 20
+NO_SUPPLEMENT = 21
+# Behind number and place, so many figures are 0 where a call refuses.
+ZEROS_OF_REFUSAL = {CHECK: 4, LOAD: 4, LIST: 1, COMPOSE: 1, FIND: 2, HAND: 2, VIEW: 1}
 MOST_INPUT = 32_768
 MOST_OUTPUT = 65_536
 
@@ -42,6 +45,16 @@ def put_out(written: bytes, output: bytes) -> bytes:
     if len(output) < len(written):
         return line(TOO_SHORT, 0, 0) + output + b"\n"
     return line(0, 0, len(written)) + written + output[len(written):] + b"\n"
+
+
+def refused(request: Request, number: int, place: int) -> bytes:
+    """The answer to a request that is refused: its other figures are 0, and what is lent stays as it was."""
+    figures = line(number, place, *[0] * ZEROS_OF_REFUSAL[request.call])
+    if request.call == LOAD:
+        return figures + b"".join(map(column_line, request.columns))
+    if request.call in (LIST, COMPOSE, VIEW):
+        return figures + request.lent + b"\n"
+    return figures
 
 
 def found(document: Document, n: int) -> bytes:

@@ -13,7 +13,7 @@ from .shapes import (
     KINDS, MARK_ORDERS, all_counts, all_dates, all_keys, all_orders, all_signs, altered_marks, any_document,
     document_of, small_document,
 )
-from .specials import lengths, random_inputs, swept_bytes, totals
+from .specials import lengths, random_inputs, swept_bytes, totals, wrong_supplements
 
 # Small documents, damaged at every field: each kind of file, as a file and as a listing.
 SMALL_FAMILIES = 2 * len(KINDS)
@@ -44,7 +44,7 @@ def orders_of_marks(rng: Random) -> Iterator[Input]:
 
 
 FIRST_FAMILIES: tuple[Callable[[Random], Iterator[Input]], ...] = (
-    lengths, totals, random_inputs, valid_shapes, orders_of_marks, swept_bytes,
+    lengths, totals, random_inputs, valid_shapes, orders_of_marks, swept_bytes, wrong_supplements,
 )
 
 

@@ -15,13 +15,17 @@ class Form(Enum):
 
 @dataclass(frozen=True, slots=True)
 class Input:
-    """The requests lend columns and outputs around the sizes of `base`, whose damaged copy the input is."""
+    """The requests lend columns and outputs around the sizes of `base`, whose damaged copy the input is.
+
+    `refusal` is the number and the place that a damaged input is refused with, where the model knows them.
+    """
 
     name: str
     form: Form
     data: bytes
     base: Document
     valid: bool = False
+    refusal: tuple[int, int] | None = None
 
 
 def written_as(document: Document, form: Form) -> Written:

@@ -1,6 +1,7 @@
 """The choice of requests for an input: which calls, and columns and outputs of which lengths and contents."""
 
 from collections.abc import Callable
+from dataclasses import replace
 from random import Random
 
 from . import expected
@@ -96,4 +97,12 @@ def requests_for(rng: Random, given: Input) -> list[Request]:
     """The requests for an input; none where it is longer than dtprobe takes: only the programs are fed it."""
     if len(given.data) > MOST_BYTES:
         return []
-    return file_requests(rng, given) if given.form is Form.FILE else listing_requests(rng, given)
+    requests = file_requests(rng, given) if given.form is Form.FILE else listing_requests(rng, given)
+    return [held_to_refusal(request, given) for request in requests] if given.refusal else requests
+
+
+def held_to_refusal(request: Request, given: Input) -> Request:
+    """The request with the refusal for its answer, unless its call is meant for the other form."""
+    if (request.call == COMPOSE) == (given.form is Form.FILE):
+        return request
+    return replace(request, expected=expected.refused(request, *given.refusal))

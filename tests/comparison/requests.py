@@ -1,6 +1,7 @@
 """The requests that dtprobe reads, and how far an answer reaches in what it prints."""
 
 from dataclasses import dataclass
+from itertools import islice
 
 from .layout import text_name
 
@@ -36,6 +37,12 @@ class Request:
     numbers: tuple[int, ...] = ()
     lent: bytes = b""
     expected: bytes | None = None
+
+    @property
+    def columns(self) -> list[Column]:
+        """The columns that a load is lent."""
+        rows = iter(rows_of(self.lent))
+        return [tuple(islice(rows, count)) for count in self.numbers]
 
     def wire(self) -> bytes:
         """The request as dtprobe reads it."""

@@ -1,6 +1,6 @@
-"""Valid documents of every shape: kinds of file, orders of marks, dates, keys, texts and border amounts."""
+"""Documents of every shape: kinds of file, orders of marks, dates, keys, texts and border amounts."""
 
-from collections.abc import Iterator
+from collections.abc import Iterator, Sequence
 from dataclasses import replace
 from datetime import date, timedelta
 from itertools import cycle, product
@@ -11,6 +11,18 @@ from .layout import TEXT_SIGNS, TEXT_WIDTH
 
 KINDS = (b"GK", b"LK", b"GB", b"LB")
 KEYS = {b"G": (51, 53, 54, 56), b"L": (4, 5)}
+FREE = range(1000)
+# The supplements that each key takes.
+SUPPLEMENTS: dict[int, Sequence[int]] = {
+    4: (0, 888), 51: (0, 888), 53: (0, 888), 5: (0, 888, 5, 6, 15), 56: (0,), 54: FREE,
+}
+NAMED_SUPPLEMENTS = sorted({named for taken in SUPPLEMENTS.values() if taken is not FREE for named in taken})
+# 051 was filed by mistake. Most others have a digit of a named one changed, moved or left out; 256 has the lower
+# eight bits of 0, and 999 is the highest.
+MISTYPED_SUPPLEMENTS = (51, 50, 8, 10, 100, 88, 808, 880, 256, 999)
+TRIED_SUPPLEMENTS = sorted(set(FREE) & {
+    *MISTYPED_SUPPLEMENTS, *(named + beside for named, beside in product(NAMED_SUPPLEMENTS, (-1, 0, 1))),
+})
 LONGEST_SPAN = 15
 FIRST_DAY = date(1980, 1, 1)
 LAST_DAY = date(2079, 12, 31)
@@ -82,13 +94,14 @@ def header_of(rng: Random, kind: bytes) -> Header:
 
 
 def payment_of(rng: Random, kind: bytes, marks: Marks) -> Payment:
+    key = rng.choice(KEYS[kind[:1]])
     return Payment(
         first_bank_code=number_between(rng, 0, MOST_IN_EIGHT_DIGITS),
         bank_code=number_between(rng, LEAST_BANK_CODE, MOST_BANK_CODE),
         account=number_between(rng, 1, MOST_ACCOUNT),
         # The first and the last of C6's thirteen digits are 0.
         customer_number=10 * number_between(rng, 0, 99_999_999_999),
-        key=rng.choice(KEYS[kind[:1]]), supplement=number_between(rng, 0, 999),
+        key=key, supplement=rng.choice(SUPPLEMENTS[key]),
         sender_bank_code=number_between(rng, LEAST_BANK_CODE, MOST_BANK_CODE),
         sender_account=number_between(rng, 1, MOST_ACCOUNT), cents=number_between(rng, 1, MOST_CENTS),
         name=text_of(rng, may_be_empty=False), sender_name=text_of(rng, may_be_empty=False),
@@ -138,12 +151,18 @@ def all_dates(rng: Random) -> Iterator[Document]:
         yield replace(document, header=header)
 
 
-def all_keys(rng: Random) -> Iterator[Document]:
-    """Every key of every kind of file, with supplements that other keys would have."""
+def with_supplements(rng: Random, taken: bool) -> Iterator[Document]:
+    """Every key of every kind of file with the tried supplements that it takes, or with all the others."""
     for kind in KINDS:
-        for key, supplement in product(KEYS[kind[:1]], (0, 5, 888, 999)):
-            payment = replace(payment_of(rng, kind, ()), key=key, supplement=supplement)
-            yield Document(header_of(rng, kind), (payment,))
+        for key, supplement in product(KEYS[kind[:1]], TRIED_SUPPLEMENTS):
+            if (supplement in SUPPLEMENTS[key]) == taken:
+                payment = replace(payment_of(rng, kind, ()), key=key, supplement=supplement)
+                yield Document(header_of(rng, kind), (payment,))
+
+
+def all_keys(rng: Random) -> Iterator[Document]:
+    """Every key of every kind of file with every tried supplement that it takes."""
+    return with_supplements(rng, taken=True)
 
 
 def all_signs(rng: Random) -> Iterator[Document]:

@@ -1,4 +1,4 @@
-"""Inputs at the limits of totals and of lengths, random bytes, every byte value in a field of each kind."""
+"""Inputs at the limits of totals and of lengths, random bytes, and bytes and supplements tried one by one."""
 
 from collections.abc import Iterator, Sequence
 from dataclasses import replace
@@ -7,10 +7,12 @@ from random import Random
 
 from .damage import random_bytes, replaced
 from .document import Document, Part
-from .expected import MOST_INPUT, MOST_OUTPUT
+from .expected import MOST_INPUT, MOST_OUTPUT, NO_SUPPLEMENT
 from .inputs import Form, Input, valid_input, written_as
 from .layout import TEXT_SIGNS, TEXT_WIDTH
-from .shapes import KINDS, MARK_ORDERS, MOST_CENTS, Marks, document_of, header_of, payment_of, small_document
+from .shapes import (
+    KINDS, MARK_ORDERS, MOST_CENTS, Marks, document_of, header_of, payment_of, small_document, with_supplements,
+)
 
 # A hundred payments of the highest amount leave 99 cents to the highest total: amounts behind them that are
 # accepted, and that are refused.
@@ -123,3 +125,12 @@ def swept_bytes(rng: Random) -> Iterator[Input]:
                 place = rng.choice((field.place, field.end - 1, rng.randrange(field.place, field.end)))
                 data = written.data[:place] + bytes([byte]) + written.data[place + 1:]
                 yield Input(f"{field.name} with {byte:02X} at {place}", form, data, base)
+
+
+def wrong_supplements(rng: Random) -> Iterator[Input]:
+    """Every key with every tried supplement that it does not take: refused where the supplement stands."""
+    for document, form in product(with_supplements(rng, taken=False), Form):
+        (payment,), written = document.payments, written_as(document, form)
+        name = f"key {payment.key:02} with {payment.supplement:03}"
+        (place,) = (field.place for field in written.fields if field.name == "C7b")
+        yield Input(name, form, written.data, document, refusal=(NO_SUPPLEMENT, place))

@@ -8,7 +8,7 @@ from pathlib import Path
 
 from . import comparing
 from .case_m import CASE_M
-from .cases import Case, is_met, request_of
+from .cases import Case, changed, is_met, request_of, unchanged
 from .comparing import Asked, FamilyComparison, Settings
 from .inputs import Form, Input, valid_input
 from .requests import CHECK, COMPOSE, FIND, HAND, HIGHEST, LIST, LOAD, VIEW, Request
@@ -109,6 +109,12 @@ class TestComparing(unittest.TestCase):
         self.assertTrue(self.program_failed(damaged, b"killed\n", b"killed\n"))
         self.assertTrue(self.program_failed(damaged, b"", b""))
 
+    def test_a_refusal_that_the_model_knows_is_held(self) -> None:
+        wrong = replace(FILE_OF_M, valid=False, refusal=(21, 174))
+        self.assertFalse(self.program_failed(wrong, b"21\t174\n", b"21\t174\n"))
+        for printed in (CASE_M.listing.data, b"21\t172\n", b"12\t174\n"):
+            self.assertTrue(self.program_failed(wrong, printed, printed), printed)
+
     def view_failed(self, request: Request, ours: bytes, second: bytes) -> bool:
         family = self.family(Prepared({}, ours), Prepared({}, second))
         family.compare_batch([Asked(0, FILE_OF_M, [request])])
@@ -202,6 +208,14 @@ class TestCases(unittest.TestCase):
         blanks = b"0\t0\t27\n" + b" " * 27 + b"\n"
         self.assertTrue(self.is_met("view 0 C16", "text \\s", blanks))
         self.assertFalse(self.is_met("view 0 C16", "text \\s", blanks.replace(b"27", b"0")))
+
+    def test_keys(self) -> None:
+        for base, changes in (("key LK 05 015", "5=LK, 172=05015"), ("key GK 54 999", "172=54999")):
+            file = unchanged(base, as_named=True)
+            self.assertEqual(file, changed(CASE_M.file.data, changes))
+            self.assertEqual(unchanged(f"lines of {base}", as_named=False), file)
+        lines = changed(CASE_M.listing.data, "2=LK, 110=05\\t015")
+        self.assertEqual(unchanged("key LK 05 015", as_named=False), lines)
 
     def test_refusals(self) -> None:
         self.assertTrue(self.is_met("list 3", "16 0", b"16\t0\t0\n...\n"))

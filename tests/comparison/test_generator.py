@@ -1,22 +1,25 @@
-"""Tests of the generator: the model, the orders of marks, the same inputs for a seed, what is asked for."""
+"""Tests of the generator: the model, marks and supplements, the same inputs for a seed, what is asked for."""
 
 import unittest
 from collections import Counter
+from collections.abc import Iterable
 from dataclasses import replace
-from itertools import islice
+from itertools import islice, product
 from random import Random
 
 from . import expected
 from .case_m import CASE_M
+from .contents import contents_for
 from .document import Document
 from .families import FIRST_FAMILIES, family, valid_shapes
 from .inputs import Form, Input, valid_input
 from .layout import MOST_PARTS, TEXT_SIGNS, length_of_payment, payment_fields, text_name, width_of
 from .lending import requests_for
 from .requests import (
-    CHECK, FIND, HAND, HIGHEST, NAME_OF_CALL, TEXT_OF_FIELD, VIEW, Request, asked_text,
+    CHECK, COMPOSE, FIND, HAND, HIGHEST, LIST, LOAD, NAME_OF_CALL, TEXT_OF_FIELD, VIEW, Request, asked_text,
 )
-from .shapes import MARK_ORDERS, document_of
+from .shapes import KEYS, KINDS, MARK_ORDERS, SUPPLEMENTS, all_keys, document_of
+from .specials import wrong_supplements
 from .viewing import find_request, hand_request, view_request
 
 # The listing that the requirements print, and the file that it stands for.
@@ -43,6 +46,10 @@ LENGTHS_AND_WIDTHS = (
 # Where C14a, C15 and C16 and the marks of the parts stand in a payment; a mark's text is two bytes behind it.
 PLACES_OF_NAMED = {"C14a": 93, "C15": 128, "C16": 155}
 PLACES_OF_MARKS = (187, 216, 256, 285, 314, 343, 384, 413, 442, 471, 512, 541, 570, 599, 640)
+# The supplements that the requirements name for each key but 54, which takes all.
+NAMED_FOR_KEY = {
+    "04": "000 888", "51": "000 888", "53": "000 888", "05": "000 888 005 006 015", "56": "000",
+}
 # Each kind of request about the view is made at least so often for the valid shapes.
 OFTEN = 20
 FILE_INPUT = valid_input("valid", Form.FILE, CASE_M)
@@ -92,6 +99,20 @@ class TestModel(unittest.TestCase):
             self.assertEqual(expected.handed(CASE_M, 128, text_name(part)), not_there)
             self.assertEqual(expected.viewed(CASE_M, 0, text_name(part)), b"19\t0\t0\n\n")
 
+    def test_refused_requests(self) -> None:
+        rows = b"".join(b"%017d" % row for row in (7, 8, 9, 5))
+        answers = {
+            Request(CHECK, b""): b"21\t174\t0\t0\t0\t0\n",
+            Request(LOAD, b"", (2, 0, 1, 1), rows): b"21\t174\t0\t0\t0\t0\n7 8 \n\n9 \n5 \n",
+            Request(LIST, b"", (3,), b"\n\n."): b"21\t174\t0\n\n\n.\n",
+            Request(COMPOSE, b"", (2,), b".."): b"21\t174\t0\n..\n",
+            Request(FIND, b""): b"21\t174\t0\t0\n",
+            Request(HAND, b""): b"21\t174\t0\t0\n",
+            Request(VIEW, b""): b"21\t174\t0\n\n",
+        }
+        for request, answer in answers.items():
+            self.assertEqual(expected.refused(request, 21, 174), answer)
+
     def test_places_of_texts(self) -> None:
         places = PLACES_OF_NAMED | {text_name(part): mark + 2 for part, mark in enumerate(PLACES_OF_MARKS, 1)}
         document = document_of(Random(3), b"GK", list(MARK_ORDERS))
@@ -130,6 +151,67 @@ class TestShapes(unittest.TestCase):
             self.assertLessEqual(marks.count(1), 1)
             self.assertLessEqual(marks.count(2), 13)
             self.assertLessEqual(marks.count(3), 1)
+
+
+def takes(key: str, supplement: str) -> bool:
+    """Whether the requirements let them go together."""
+    return key == "54" or supplement in NAMED_FOR_KEY[key].split()
+
+
+def tried(inputs: Iterable[Input]) -> Counter[tuple[Form, str, str, str]]:
+    """The form of each input of one payment, and A3, C7a and C7b as they stand in it."""
+    return Counter((given.form, *kind_key_and_supplement(given)) for given in inputs)
+
+
+def kind_key_and_supplement(given: Input) -> tuple[str, str, str]:
+    data = given.data.decode()
+    if given.form is Form.FILE:
+        return data[5:7], data[172:174], data[174:177]
+    header, payment = (line.split("\t") for line in data.splitlines())
+    return header[1], payment[5], payment[6]
+
+
+class TestSupplements(unittest.TestCase):
+    """Keys and their supplements against the table as the requirements print it."""
+
+    def test_every_key_has_its_supplements(self) -> None:
+        self.assertEqual(sorted(SUPPLEMENTS), sorted(key for keys in KEYS.values() for key in keys))
+        for key, taken in SUPPLEMENTS.items():
+            wanted = [number for number in range(1000) if takes(f"{key:02}", f"{number:03}")]
+            self.assertEqual(sorted(taken), wanted)
+
+    def test_payments_have_supplements_of_their_keys(self) -> None:
+        payments = (payment for kind in KINDS for payment in document_of(Random(2), kind, [()] * 400).payments)
+        drawn = {(f"{payment.key:02}", f"{payment.supplement:03}") for payment in payments}
+        free = {pair for pair in drawn if pair[0] == "54"}
+        named = {(key, supplement) for key, words in NAMED_FOR_KEY.items() for supplement in words.split()}
+        self.assertEqual(drawn - free, named)
+        self.assertGreater(len(free), 100)
+
+    def test_every_key_is_tried_with_every_supplement(self) -> None:
+        valid = tried(valid_input("valid", form, document) for document in all_keys(Random(1)) for form in Form)
+        wrong = tried(family(7, FIRST_FAMILIES.index(wrong_supplements)))
+        self.assertTrue(all(takes(key, supplement) for _, _, key, supplement in valid))
+        self.assertFalse(any(takes(key, supplement) for _, _, key, supplement in wrong))
+        beside = {number + near for number in (5, 6, 15, 888) for near in (-1, 0, 1)}
+        supplements = [f"{number:03}" for number in {0, 1, 51, 999} | beside]
+        keys = {"GK": "51 53 54 56", "LK": "04 05", "GB": "51 53 54 56", "LB": "04 05"}
+        wanted = {pair for kind in keys for pair in product(Form, [kind], keys[kind].split(), supplements)}
+        self.assertEqual(wanted - valid.keys() - wrong.keys(), set())
+        self.assertEqual(set((valid + wrong).values()), {1})
+
+    def test_wrong_ones_are_refused_where_they_stand(self) -> None:
+        for given in wrong_supplements(Random(3)):
+            is_file = given.form is Form.FILE
+            place = 174 if is_file else given.data.index(b"\n") + 49
+            for request in requests_for(Random(5), given):
+                known = expected.refused(request, 21, place) if (request.call != COMPOSE) == is_file else None
+                self.assertEqual(request.expected, known)
+
+    def test_they_are_put_into_payments(self) -> None:
+        (field,) = (field for field in CASE_M.file.fields if field.name == "C7b")
+        contents = {content for _, content in contents_for(field, b"777", CASE_M.header)}
+        self.assertLessEqual({b"005", b"006", b"015", b"888", b"051"}, contents)
 
 
 class TestFamilies(unittest.TestCase):

@@ -85,6 +85,7 @@ damaged =
     ∷ inM 173 "X" not-digit 172 2 C7a
     ∷ inM 172 "52" (breaks 12) 172 2 C7a
     ∷ inM 176 "X" not-digit 174 3 C7b
+    ∷ inM 174 "889" (breaks 21) 174 3 C7b
     ∷ inM 177 "0" not-fixed 177 1 C8
     ∷ inM 188 "X" not-fixed 178 11 C9
     ∷ inM 188 "1" not-fixed 178 11 C9

@@ -152,9 +152,10 @@ cases =
     ∷ inA 8 "30032004" 0 0
     ∷ inA 8 "31032004" 10 64
     ∷ inA 8 "3103200X" 3 64
-    -- C4, C12, marks
+    -- C4, C7b, C12, marks
     ∷ inC 2 "3005002X" 3 76
     ∷ inC 2 "90050020" 11 76
+    ∷ inC 6 "889" 21 113
     ∷ inC 9 "00000000000" 11 137
     ∷ inC 13 "04" 13 182
     -- no part, 15 in order, 15 times 02, 16
@@ -173,7 +174,7 @@ cases =
     ∷ behindHundred (linePaying "00000000099" ∷ ascii "C\n" ∷ []) 17 12_993
     ∷ []
 
-abbrev reached : Ending → ℕ × ℕ
+abbrev pub reached : Ending → ℕ × ℕ
 reached (writes bs) = (0, 0)
 reached (refuses v) = (v .number, v .place)
 

@@ -1,4 +1,4 @@
--- Which numbers the diskette form gives: its rules give 5 to 14, each record its own, so that a refused file has one of the numbers of a file.
+-- Which numbers the diskette form gives: its rules give 5 to 14 and 21, each record its own, so that a refused file has one of the numbers of a file.
 -- Field by field the number of each rule is looked up in the list of its record, which computes; the parts and the payments go by induction over
 -- those that are left. The lists of the records are then taken together (`numbered-within`), and what is broken is a rule of the form by
 -- `number-given`. The reasons that are no rule have their numbers by `numberOf`.
@@ -30,7 +30,7 @@ abbrev pub ofFirst : List ℕ
 ofFirst = 5 ∷ 6 ∷ 9 ∷ []
 
 abbrev pub ofPayment : List ℕ
-ofPayment = 7 ∷ 8 ∷ 9 ∷ 11 ∷ 12 ∷ 13 ∷ []
+ofPayment = 7 ∷ 8 ∷ 9 ∷ 11 ∷ 12 ∷ 13 ∷ 21 ∷ []
 
 abbrev ofEnd : List ℕ
 ofEnd = 14 ∷ []
@@ -80,7 +80,7 @@ payment-numbers kind t l =
     (tt, (tt, tt)) ▸ λ v.
     (tt, tt) ▸ λ v.
     (tt, tt) ▸ λ v.
-    tt ▸ λ v.
+    (tt, tt) ▸ λ v.
     tt ▸ λ v.
     tt ▸ λ v.
     (tt, tt) ▸ λ v.

@@ -65,7 +65,7 @@ module _ (kind : List ℕ) (t : Totals) (l : ℕ) where
             ▸ (p .account, lt→ltb (p .account) (10 ^ 10) (q .C5), (q .C5-some, (lt→ltb (t .accounts + p .account) sumLimit (g .accounts), tt)))
             ▸ (p .customer, lt→ltb (p .customer) (10 ^ 13) (q .C6), (q .C6-ends, tt))
             ▸ (p .key, key-fits kind (p .key) (q .C7a), (q .C7a, tt))
-            ▸ (p .supplement, lt→ltb (p .supplement) (10 ^ 3) (q .C7b), tt)
+            ▸ (p .supplement, lt→ltb (p .supplement) (10 ^ 3) (q .C7b), (q .C7b-key, tt))
             ▸ ok
             ▸ ok
             ▸ (p .senderBank, lt→ltb (p .senderBank) (10 ^ 8) (q .C10), (q .C10-first, tt))
@@ -136,6 +136,7 @@ module _ (kind : List ℕ) (t : Totals) (l : ℕ) where
         C6-ends = customer .0 .2 .0;
         C7a = key .0 .2 .0;
         C7b = ltb→lt (supplement .0 .0) (10 ^ 3) (supplement .0 .1);
+        C7b-key = supplement .0 .2 .0;
         C10 = ltb→lt (senderBank .0 .0) (10 ^ 8) (senderBank .0 .1);
         C10-first = senderBank .0 .2 .0;
         C11 = ltb→lt (senderAccount .0 .0) (10 ^ 10) (senderAccount .0 .1);

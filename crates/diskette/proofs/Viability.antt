@@ -23,6 +23,7 @@ use Rattle.document.specs.Rules.{mostPayments, mostCents, endsInK, beginsWithG,
 use Rattle.diskette.specs.Writing.{lengthOf, section, toSectionEnd, toNextPart, writeBody}
 use Rattle.document.specs.Marks.{roomAfter}
 use Rattle.diskette.specs.Fields.{header, closingBlanks, parts, payment, end, isLength, firstField, payments, behindHeader, document}
+use Rattle.document.proofs.FieldLaws.{plain-supplement}
 use Rattle.document.proofs.MarkLaws.{see-mark, show-mark, mark-fits, room-left, some-mark}
 use Rattle.diskette.proofs.PaymentSays.{GoodPayment, payment-says}
 use Rattle.diskette.proofs.EndSays.{Within, end-begins, payment-begins}
@@ -96,7 +97,7 @@ payment-viable kind t l b n c s =
     (1, tt, (tt, (lt→ltb (t .accounts + 1) (10 ^ 17) (account-room t b n 1 (omega arith)), tt))) ▸ λ x.
     (0, tt, (tt, tt)) ▸ λ x.
     (key.0, key.1, (key.2, tt)) ▸ λ x.
-    (0, tt, tt) ▸ λ x.
+    (0, tt, (plain-supplement kind (x .0) (x .2 .0), tt)) ▸ λ x.
     ok ▸ λ x.
     ok ▸ λ x.
     (10_000_000, tt, (tt, tt)) ▸ λ x.

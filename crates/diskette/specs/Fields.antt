@@ -10,7 +10,7 @@ use Rattle.form.specs.Form.{Rule, rule, Form, ret, get, any, fork, _>>=_, _>>_}
 use Rattle.document.specs.Signs.{ascii, zeros, sign, notAllBlank}
 use Rattle.document.specs.Calendar.{Day, isDay, inSpan, ofDDMMYY, ofDDMMYYYY}
 use Rattle.document.specs.Values.{Header, Part, Payment, Document, Totals, noTotals, adding}
-use Rattle.document.specs.Rules.{mostPayments, mostCents, sumLimit, fileKinds, sendingBankOk, bankCodeOk, customerOk, notZero, keyOk}
+use Rattle.document.specs.Rules.{mostPayments, mostCents, sumLimit, fileKinds, sendingBankOk, bankCodeOk, customerOk, notZero, keyOk, supplementOk}
 use Rattle.document.specs.Marks.{roomAfter, markOk}
 use Rattle.diskette.specs.Writing.{lengthOf, section, toSectionEnd, toNextPart}
 
@@ -95,6 +95,10 @@ rulesC6 v = rule 11 (customerOk v) ∷ []
 abbrev pub rulesC7a : List ℕ → ℕ → List Rule
 rulesC7a kind v = rule 12 (keyOk kind v) ∷ []
 
+-- key: C7a
+abbrev pub rulesC7b : ℕ → ℕ → List Rule
+rulesC7b key v = rule 21 (supplementOk key v) ∷ []
+
 abbrev pub rulesC10 : ℕ → List Rule
 rulesC10 v = rule 11 (bankCodeOk v) ∷ []
 
@@ -143,7 +147,7 @@ payment kind t l = do
   account ← get C5 (digits 10) (rulesC5 (t .accounts))
   customer ← get C6 (digits 13) rulesC6
   key ← get C7a (digits 2) (rulesC7a kind)
-  supplement ← any C7b (digits 3)
+  supplement ← get C7b (digits 3) (rulesC7b key)
   must C8 (blanks 1)
   must C9 (zeros 11)
   senderBank ← get C10 (digits 8) rulesC10

@@ -10,7 +10,7 @@ use Rattle.form.specs.Kind.{every, among, oneOf}
 use Rattle.form.proofs.BoolLaws.{and-both, and-of}
 use Rattle.form.proofs.KindLaws.{among-every, oneOf-every}
 use Rattle.document.specs.Signs.{sign}
-use Rattle.document.specs.Rules.{Text, fileKinds, notZero, keys, keyOk, beginsWithG}
+use Rattle.document.specs.Rules.{Text, fileKinds, notZero, keys, keyOk, beginsWithG, supplementOk}
 
 -- ---- texts
 
@@ -29,13 +29,21 @@ kind-length v t = eqb→eq (length v) 2 (among-every (λ w. eqb (length w) 2) fi
 pub kind-fits : (v : List ℕ) → T (among fileKinds v) → T (eqb (length v) 2 && among fileKinds v)
 kind-fits v t = and-of (eqb (length v) 2) (among fileKinds v) (rw (kind-length v t) tt) t
 
+-- what holds of the keys of credits and of debits holds of every key of a file
+key-every : (f : ℕ → Bool) → T (every f (keys true)) → T (every f (keys false)) → (kind : List ℕ) (k : ℕ) → T (keyOk kind k) → T (f k)
+key-every f credits debits kind k t = by (beginsWithG kind) t
+  where
+    by : (b : Bool) → T (oneOf (keys b) k) → T (f k)
+    by true t = oneOf-every f (keys true) k credits t
+    by false t = oneOf-every f (keys false) k debits t
+
 -- C7a has two digits
 pub key-fits : (kind : List ℕ) (k : ℕ) → T (keyOk kind k) → T (ltb k 100)
-key-fits kind k t = by (beginsWithG kind) t
-  where
-    by : (b : Bool) → T (oneOf (keys b) k) → T (ltb k 100)
-    by true t = oneOf-every (λ x. ltb x 100) (keys true) k tt t
-    by false t = oneOf-every (λ x. ltb x 100) (keys false) k tt t
+key-fits = key-every (λ x. ltb x 100) tt tt
+
+-- the supplement 000 goes with every key
+pub plain-supplement : (kind : List ℕ) (k : ℕ) → T (keyOk kind k) → T (supplementOk k 0)
+plain-supplement = key-every (λ x. supplementOk x 0) tt tt
 
 -- ---- numbers
 

@@ -3,10 +3,10 @@ use Prim.Native.Nat.{ℕ}
 use mathlib.Core.Path.{_≡_, refl}
 use mathlib.Core.Bool.{Bool, true, false}
 use mathlib.Core.List.{List, [], _∷_, map}
-use Rattle.form.specs.Kind.{every, among}
+use Rattle.form.specs.Kind.{every, one, among}
 use Rattle.document.specs.Signs.{ascii, sign, notAllBlank}
 use Rattle.document.specs.Calendar.{Day, leapDay, monthDays, isDay, yearsDays, monthsDays, dayNumber, inSpan, ofDDMMYY}
-use Rattle.document.specs.Rules.{fileKinds, sendingBankOk, bankCodeOk, customerOk, notZero, keyOk}
+use Rattle.document.specs.Rules.{fileKinds, sendingBankOk, bankCodeOk, customerOk, notZero, keyOk, supplementOk}
 
 -- what a definition says of a value, and what it is to say
 pub record Example : Type 0 where
@@ -50,6 +50,15 @@ examples =
     ∷ no (keyOk (ascii "GB") 5)
     ∷ yes (every (keyOk (ascii "LK")) (4 ∷ 5 ∷ []))
     ∷ no (keyOk (ascii "LK") 51)
+    -- supplements of each key, and their neighbours
+    ∷ yes (every (λ key. every (supplementOk key) (0 ∷ 888 ∷ [])) (4 ∷ 51 ∷ 53 ∷ []))
+    ∷ no (one (λ key. one (supplementOk key) (1 ∷ 5 ∷ 6 ∷ 15 ∷ 51 ∷ 887 ∷ 889 ∷ [])) (4 ∷ 51 ∷ 53 ∷ []))
+    ∷ yes (every (supplementOk 5) (0 ∷ 888 ∷ 5 ∷ 6 ∷ 15 ∷ []))
+    ∷ no (one (supplementOk 5) (1 ∷ 4 ∷ 7 ∷ 14 ∷ 16 ∷ 51 ∷ 887 ∷ 889 ∷ []))
+    ∷ yes (supplementOk 56 0)
+    ∷ no (one (supplementOk 56) (1 ∷ 888 ∷ []))
+    ∷ yes (every (supplementOk 54) (0 ∷ 1 ∷ 5 ∷ 51 ∷ 888 ∷ 999 ∷ []))
+    ∷ no (supplementOk 55 0)
     -- days: of November, of a century's end, of the year 0, of the last year; the century's pivot; the span
     ∷ yes (isDay (on 30 11 2004))
     ∷ no (isDay (on 31 11 2004))

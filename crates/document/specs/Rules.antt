@@ -60,6 +60,15 @@ keys credit = cond credit (51 ∷ 53 ∷ 54 ∷ 56 ∷ []) (4 ∷ 5 ∷ [])
 abbrev pub keyOk : List ℕ → ℕ → Bool
 keyOk kind v = oneOf (keys (beginsWithG kind)) v
 
+-- C7b, held against C7a: with 04, 51 and 53 it is 000 or 888; with 05 it is 000, 888, 005, 006 or 015; with 56 it is 000; with 54 all three
+-- digits are free. Another key has none.
+abbrev pub supplementOk : ℕ → ℕ → Bool
+supplementOk key v =
+    (oneOf (4 ∷ 51 ∷ 53 ∷ []) key && oneOf (0 ∷ 888 ∷ []) v)
+    || (eqb key 5 && oneOf (0 ∷ 888 ∷ 5 ∷ 6 ∷ 15 ∷ []) v)
+    || (eqb key 56 && eqb v 0)
+    || eqb key 54
+
 -- a text: 27 permitted signs
 pub record Text (t : List ℕ) : Type 0 where
   pub long : length t ≡ 27
@@ -114,6 +123,7 @@ pub record LegalPayment (kind : List ℕ) (p : Payment) : Type 0 where
   pub C6-ends : T (customerOk (p .customer))
   pub C7a : T (keyOk kind (p .key))
   pub C7b : p .supplement < 10 ^ 3
+  pub C7b-key : T (supplementOk (p .key) (p .supplement))
   pub C10 : p .senderBank < 10 ^ 8
   pub C10-first : T (bankCodeOk (p .senderBank))
   pub C11 : p .senderAccount < 10 ^ 10

@@ -56,3 +56,6 @@ pub const ENDS_EARLY: u8 = 18;
 
 // The file is accepted, but it has no such payment, or the payment no such part.
 pub const NO_SUCH: u8 = 19;
+
+// C7b is no supplement of its key.
+pub const NO_SUPPLEMENT: u8 = 21;

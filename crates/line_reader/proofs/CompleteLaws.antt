@@ -19,7 +19,7 @@ use Rattle.document.specs.Marks.{mostParts}
 use Rattle.document.proofs.FieldLaws.{key-fits}
 use Rattle.document.proofs.MarkLaws.{legal-walked}
 use Rattle.diskette.specs.Writing.{lengthOf}
-use Rattle.diskette.specs.Fields.{rulesC4, rulesC5, rulesC6, rulesC7a, rulesC10, rulesC11, rulesC12}
+use Rattle.diskette.specs.Fields.{rulesC4, rulesC5, rulesC6, rulesC7a, rulesC7b, rulesC10, rulesC11, rulesC12}
 use Rattle.diskette.proofs.PartsSays.{markOf}
 use Rattle.diskette.proofs.PaymentSays.{GoodPayment}
 use Rattle.layout.specs.Widths as width
@@ -131,7 +131,7 @@ module _ {l : List ℕ} {p s : ℕ} {x : Payment} (line : Printed l p s x) where
           C5 = number-there width.C5 (x .account) at-C5 (rulesC5 (sums .accounts .0)) (legal .C5) (legal .C5-some, (accounts, tt)) (omega arith);
           C6 = number-there width.C6 (x .customer) at-C6 rulesC6 (legal .C6) (legal .C6-ends, tt) (omega arith);
           C7a = number-there width.C7a (x .key) at-C7a (rulesC7a letters) key (legal .C7a, tt) (omega arith);
-          C7b = looked (digits 3) (λ u. []) l (p + place.C7b) (number-there width.C7b (x .supplement) at-C7b (λ u. []) (legal .C7b) tt (omega arith));
+          C7b = number-there width.C7b (x .supplement) at-C7b (rulesC7b (x .key)) (legal .C7b) (legal .C7b-key, tt) (omega arith);
           accountsOn = refl;
           banksOn = refl;
         }

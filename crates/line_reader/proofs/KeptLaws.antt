@@ -16,8 +16,8 @@ use Rattle.form.specs.Reader.{Look, has}
 use Rattle.form.specs.Place.{lookAt, fieldAt}
 use Rattle.form.proofs.AnswerLaws.{has-or-lacks}
 use Rattle.form.proofs.BoolLaws.{is-true, T-of, and-both, and-of}
-use Rattle.document.specs.Rules.{bankCodeOk, customerOk, keyOk, notZero, sumLimit, mostCents}
-use Rattle.diskette.specs.Fields.{rulesC4, rulesC5, rulesC6, rulesC7a, rulesC10, rulesC11, rulesC12}
+use Rattle.document.specs.Rules.{bankCodeOk, customerOk, keyOk, supplementOk, notZero, sumLimit, mostCents}
+use Rattle.diskette.specs.Fields.{rulesC4, rulesC5, rulesC6, rulesC7a, rulesC7b, rulesC10, rulesC11, rulesC12}
 use Rattle.layout.specs.Lines as line
 use Rattle.fields.specs.declared.Refusal.{Refusal}
 use Rattle.fields.specs.declared.Number.{Number}
@@ -50,6 +50,9 @@ module _ (l : List ℕ) (q v : ℕ) where
 
   pub kept-C7a : (letters : List ℕ) → lookAt (digits 2) l q ≡ has v → keyOk letters v ≡ true → fieldAt (digits 2) (rulesC7a letters) l q ≡ has v
   kept-C7a letters content e = rw (content, e)
+
+  pub kept-C7b : (key : ℕ) → lookAt (digits 3) l q ≡ has v → supplementOk key v ≡ true → fieldAt (digits 3) (rulesC7b key) l q ≡ has v
+  kept-C7b key content e = rw (content, e)
 
   pub kept-C10 : lookAt (digits 8) l q ≡ has v → bankCodeOk v ≡ true → fieldAt (digits 8) rulesC10 l q ≡ has v
   kept-C10 content e = rw (content, e)
@@ -89,17 +92,29 @@ module _ {l : List ℕ} {p : ℕ} {letters : List ℕ} {accounts banks : ℕ} {a
   pub read-C7a : lookAt (digits 2) l (p + line.C7a) ≡ has (r .fields .key)
   read-C7a = looked (digits 2) (rulesC7a letters) l (p + line.C7a) (r .C7a)
 
+  pub read-C7b : lookAt (digits 3) l (p + line.C7b) ≡ has (r .fields .supplement)
+  read-C7b = looked (digits 3) (rulesC7b (r .fields .key)) l (p + line.C7b) (r .C7b)
+
+  -- the supplement that was read goes with the key that was read
+  keeps-C7b : {key v : ℕ} → lookAt (digits 2) l (p + line.C7a) ≡ has key → lookAt (digits 3) l (p + line.C7b) ≡ has v → T (supplementOk key v)
+  keeps-C7b {key} {v} c7a c7b =
+      let i = read-C7a in
+      let same : r .fields .key ≡ key = cc in
+      subst (λ k. T (supplementOk k v)) same (keeps (digits 3) (rulesC7b (r .fields .key)) l (p + line.C7b) (r .C7b) c7b .0)
+
   -- the tests of the numbers that were read do not fail
-  pub receiver-tests : {bank account customer key : ℕ} → lookAt (digits 8) l (p + line.C4) ≡ has bank → lookAt (digits 10) l (p + line.C5) ≡ has account
-      → lookAt (digits 13) l (p + line.C6) ≡ has customer → lookAt (digits 2) l (p + line.C7a) ≡ has key
-      → {x y z : Bool} → x ≡ bankCodeOk bank → y ≡ customerOk customer → z ≡ keyOk letters key → not ((x && notZero account) && (y && z)) ≡ true → ⊥
-  receiver-tests {bank} {account} {customer} {key} c4 c5 c6 c7a {x} {y} {z} i j k e =
+  pub receiver-tests : {bank account customer key v : ℕ} → lookAt (digits 8) l (p + line.C4) ≡ has bank → lookAt (digits 10) l (p + line.C5) ≡ has account
+      → lookAt (digits 13) l (p + line.C6) ≡ has customer → lookAt (digits 2) l (p + line.C7a) ≡ has key → lookAt (digits 3) l (p + line.C7b) ≡ has v
+      → {x y z w : Bool} → x ≡ bankCodeOk bank → y ≡ customerOk customer → z ≡ keyOk letters key → w ≡ supplementOk key v
+      → not (((x && notZero account) && y) && (z && w)) ≡ true → ⊥
+  receiver-tests {bank} {account} {customer} {key} {v} c4 c5 c6 c7a c7b {x} {y} {z} {w} i j k m e =
       let t =
-      and-of (bankCodeOk bank && notZero account) (customerOk customer && keyOk letters key)
-      (and-of (bankCodeOk bank) (notZero account) (keeps-C4 c4 .0) (keeps-C5 c5 .0))
-      (and-of (customerOk customer) (keyOk letters key)
-      (keeps (digits 13) rulesC6 l (p + line.C6) (r .C6) c6 .0) (keeps (digits 2) (rulesC7a letters) l (p + line.C7a) (r .C7a) c7a .0)) in
-      failed t (rw (i, j, k) at (not-true ((x && notZero account) && (y && z)) e))
+      and-of ((bankCodeOk bank && notZero account) && customerOk customer) (keyOk letters key && supplementOk key v)
+      (and-of (bankCodeOk bank && notZero account) (customerOk customer)
+      (and-of (bankCodeOk bank) (notZero account) (keeps-C4 c4 .0) (keeps-C5 c5 .0)) (keeps (digits 13) rulesC6 l (p + line.C6) (r .C6) c6 .0))
+      (and-of (keyOk letters key) (supplementOk key v)
+      (keeps (digits 2) (rulesC7a letters) l (p + line.C7a) (r .C7a) c7a .0) (keeps-C7b c7a c7b)) in
+      failed t (rw (i, j, k, m) at (not-true (((x && notZero account) && y) && (z && w)) e))
 
 module _ {l : List ℕ} {p cents : ℕ} {c : CentSum} (a : Amount l p cents c) where
   pub read-C10 : lookAt (digits 8) l (p + line.C10) ≡ has (a .fields .senderBank)

@@ -16,7 +16,7 @@ use Rattle.document.specs.Signs.{ascii}
 use Rattle.document.specs.Values.{Payment, Totals}
 use Rattle.document.specs.Rules.{mostPayments, mostCents, sumLimit, LegalPayment}
 use Rattle.diskette.specs.Writing.{section, lengthOf, writePayment}
-use Rattle.diskette.specs.Fields.{rulesC4, rulesC5, rulesC6, rulesC7a, rulesC10, rulesC11, rulesC12}
+use Rattle.diskette.specs.Fields.{rulesC4, rulesC5, rulesC6, rulesC7a, rulesC7b, rulesC10, rulesC11, rulesC12}
 use Rattle.document.specs.Marks.{mostParts}
 use Rattle.document.proofs.MarkLaws.{walked-legal}
 use Rattle.diskette.proofs.PartsSays.{markOf}
@@ -147,7 +147,6 @@ module _ {l : List ℕ} {p : ℕ} {letters : List ℕ} {count : ℕ} {sums new :
       let a = seen .numbers .amount in
       let n = seen .texts in
       let c3 = no-rules l (p + line.C3) 8 _ (r .C3) in
-      let c7b = no-rules l (p + line.C7b) 3 _ (r .C7b) in
       record {
         C3 = number-fits _ _ _ _ (λ u. []) c3;
         C4 = number-fits _ _ _ _ (rulesC4 (sums .banks .0)) (r .C4);
@@ -157,7 +156,8 @@ module _ {l : List ℕ} {p : ℕ} {letters : List ℕ} {count : ℕ} {sums new :
         C6 = number-fits _ _ _ _ rulesC6 (r .C6);
         C6-ends = number-holds _ _ _ _ rulesC6 (r .C6) .0;
         C7a = number-holds _ _ _ _ (rulesC7a letters) (r .C7a) .0;
-        C7b = number-fits _ _ _ _ (λ u. []) c7b;
+        C7b = number-fits _ _ _ _ (rulesC7b (paid .key)) (r .C7b);
+        C7b-key = number-holds _ _ _ _ (rulesC7b (paid .key)) (r .C7b) .0;
         C10 = number-fits _ _ _ _ rulesC10 (a .C10);
         C10-first = number-holds _ _ _ _ rulesC10 (a .C10) .0;
         C11 = number-fits _ _ _ _ rulesC11 (a .C11);
@@ -197,7 +197,7 @@ module _ {l : List ℕ} {p : ℕ} {letters : List ℕ} {count : ℕ} {sums new :
       (number-field _ _ _ _ (rulesC5 (sums .accounts .0)) (r .C5) (t .C5) (omega arith) (omega arith)
       (number-field _ _ _ _ rulesC6 (r .C6) (t .C6) (omega arith) (omega arith)
       (number-field _ _ _ _ (rulesC7a letters) (r .C7a) (t .C7a) (omega arith) (omega arith)
-      (number-field _ _ _ _ (λ u. []) (no-rules l (p + line.C7b) 3 _ (r .C7b)) (t .C7b) (omega arith) (omega arith)
+      (number-field _ _ _ _ (rulesC7b (paid .key)) (r .C7b) (t .C7b) (omega arith) (omega arith)
       (number-field _ _ _ _ rulesC10 (a .C10) (t .C10) (omega arith) (omega arith)
       (number-field _ _ _ _ rulesC11 (a .C11) (t .C11) (omega arith) (omega arith)
       (number-field _ _ _ _ (rulesC12 (sums .cents .0)) (a .C12) (t .C12) (omega arith) (omega arith)

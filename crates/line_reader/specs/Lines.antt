@@ -13,7 +13,7 @@ use Rattle.document.specs.Signs.{sign}
 use Rattle.document.specs.Marks.{mostParts, roomAfter, markOk}
 use Rattle.layout.specs.Widths as width
 use Rattle.layout.specs.Lines as line
-use Rattle.diskette.specs.Fields.{rulesC4, rulesC5, rulesC6, rulesC7a, rulesC10, rulesC11, rulesC12}
+use Rattle.diskette.specs.Fields.{rulesC4, rulesC5, rulesC6, rulesC7a, rulesC7b, rulesC10, rulesC11, rulesC12}
 use Rattle.payment_fields.specs.Stretches as stretches
 use Rattle.sums.specs.declared.AccountSum.{AccountSum}
 use Rattle.sums.specs.declared.BankCodeSum.{BankCodeSum}
@@ -57,7 +57,7 @@ pub record Receiver (l : List ℕ) (p : ℕ) (letters : List ℕ) (accounts bank
   pub C5 : fieldAt (digits 10) (rulesC5 accounts) l (p + line.C5) ≡ has (fields .account)
   pub C6 : fieldAt (digits 13) rulesC6 l (p + line.C6) ≡ has (fields .customer)
   pub C7a : fieldAt (digits 2) (rulesC7a letters) l (p + line.C7a) ≡ has (fields .key)
-  pub C7b : lookAt (digits 3) l (p + line.C7b) ≡ has (fields .supplement)
+  pub C7b : fieldAt (digits 3) (rulesC7b (fields .key)) l (p + line.C7b) ≡ has (fields .supplement)
   pub accountsOn : a ≡ record { 0 = accounts + fields .account }
   pub banksOn : b ≡ record { 0 = banks + fields .bankCode }
 

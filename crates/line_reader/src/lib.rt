@@ -121,12 +121,12 @@ fn receiver_at(
         return ReceiverSeen::No;
     };
     let c7b = fields::number_at(l, p + line::C7B, width::C7B);
-    let Number::Is(_, _) = c7b else {
+    let Number::Is(supplement, _) = c7b else {
         return ReceiverSeen::No;
     };
     let receiver = payment_fields::bank_code_ok(bank_code) & (account != 0);
-    let keys = payment_fields::customer_ok(customer) & payment_fields::key_ok(kind, key);
-    if !(receiver & keys) {
+    let keys = payment_fields::key_ok(kind, key) & payment_fields::supplement_ok(key, supplement);
+    if !(receiver & payment_fields::customer_ok(customer) & keys) {
         return ReceiverSeen::No;
     }
     let new_accounts = accounts.add(account);

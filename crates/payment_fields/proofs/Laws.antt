@@ -1,7 +1,10 @@
--- What the answers of the summed fields and of the stretches tell, and the keys of a kind of file as the code tries them.
+-- What the answers of the summed fields and of the stretches tell, and lists of keys and of supplements as the code tries them.
 use Prim.Native.Nat.{ℕ, _+_}
 use mathlib.Core.Path.{_≡_, refl, ap, _∙_}
 use mathlib.Core.Bool.{Bool, true, false, _||_}
+use mathlib.Core.List.{List, [], _∷_}
+use lib.Dec.{eqb}
+use Rattle.form.specs.Kind.{oneOf}
 use Rattle.form.specs.Reader.{Look, has}
 use Rattle.form.specs.Place.{Read, done}
 use Rattle.diskette.specs.Fields.{Name}
@@ -22,17 +25,22 @@ use Rattle.payment_fields.specs.declared.ReceiverRead.the-variants as re
 use Rattle.payment_fields.specs.Summed.{accountsOn, accountsWhy, bankCodesOn, bankCodesWhy, centsWhy}
 use Rattle.payment_fields.specs.Stretches.{Receiver, receiversOn, receiverWhy, Amount, amountsOn}
 
-pub or-four : (a b c d : Bool) → ((a || b) || c) || d ≡ a || (b || (c || (d || false)))
-or-four true b c d = refl
-or-four false true c d = refl
-or-four false false true d = refl
-or-four false false false true = refl
-or-four false false false false = refl
+-- ---- lists of numbers
 
-pub or-two : (a b : Bool) → a || b ≡ a || (b || false)
-or-two true b = refl
-or-two false true = refl
-or-two false false = refl
+-- v is tried against one number after another, b telling whether one before them was the same
+abbrev tried : ℕ → Bool → List ℕ → Bool
+tried v b [] = b
+tried v b (x ∷ xs) = tried v (b || eqb v x) xs
+
+tried-or : (v : ℕ) (b : Bool) (xs : List ℕ) → tried v b xs ≡ b || oneOf xs v
+tried-or v true [] = refl
+tried-or v false [] = refl
+tried-or v true (x ∷ xs) = tried-or v true xs
+tried-or v false (x ∷ xs) = tried-or v (eqb v x) xs
+
+-- where all numbers of a list are tried, the answer is whether v is one of them
+pub tried-all : (v x : ℕ) (xs : List ℕ) → tried v (eqb v x) xs ≡ oneOf (x ∷ xs) v
+tried-all v x xs = tried-or v (eqb v x) xs
 
 -- ---- the summed fields
 

@@ -6,7 +6,7 @@ use Rattle.form.specs.Kind.{digits, blanks}
 use Rattle.form.specs.Form.{Form, ret, get, any, _>>=_, _>>_}
 use Rattle.document.specs.Signs.{ascii, zeros}
 use Rattle.document.specs.Values.{Payment, Part, Totals}
-use Rattle.diskette.specs.Fields.{Name, C2, C3, C4, C5, C6, C7a, C7b, C8, C9, C10, C11, C12, C13, C14a, C14b, C15, C16, C17a, C17b, C18, must, text27, rulesC4, rulesC5, rulesC6, rulesC7a, rulesC10, rulesC11, rulesC12, rulesOfNames, rulesC18, parts, payment}
+use Rattle.diskette.specs.Fields.{Name, C2, C3, C4, C5, C6, C7a, C7b, C8, C9, C10, C11, C12, C13, C14a, C14b, C15, C16, C17a, C17b, C18, must, text27, rulesC4, rulesC5, rulesC6, rulesC7a, rulesC7b, rulesC10, rulesC11, rulesC12, rulesOfNames, rulesC18, parts, payment}
 use Rattle.fields.specs.declared.Refusal.{Refusal}
 use Rattle.fields.specs.Answers.{refusalOf, Telling}
 use Rattle.payment_fields.specs.declared.CentsRead.{CentsRead}
@@ -32,7 +32,7 @@ receiver kind accounts bankCodes = do
   account ← get C5 (digits 10) (rulesC5 accounts)
   customer ← get C6 (digits 13) rulesC6
   key ← get C7a (digits 2) (rulesC7a kind)
-  supplement ← any C7b (digits 3)
+  supplement ← get C7b (digits 3) (rulesC7b key)
   ret (record {
     firstBank = firstBank;
     bankCode = bankCode;

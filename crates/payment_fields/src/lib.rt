@@ -3,8 +3,8 @@ ghost use mathlib.Core.Path.{_≡_};
 ghost use Prim.Native.Nat.{_+_};
 ghost use Rattle.form.specs.Kind.{digits};
 ghost use Rattle.form.specs.Place.{fieldAt, readAt};
-ghost use Rattle.document.specs.Rules.{bankCodeOk, customerOk, keyOk};
-ghost use Rattle.diskette.specs.Fields.{rulesC4, rulesC5, rulesC6, rulesC7a, rulesC10, rulesC11, rulesC12, rulesC18};
+ghost use Rattle.document.specs.Rules.{bankCodeOk, customerOk, keyOk, supplementOk};
+ghost use Rattle.diskette.specs.Fields.{rulesC4, rulesC5, rulesC6, rulesC7a, rulesC7b, rulesC10, rulesC11, rulesC12, rulesC18};
 ghost use Rattle.fields.specs.Answers.{ofField, ofRead, passings, numbers, lettersOf};
 ghost use Rattle.payment_fields.specs.Summed.{accountsOn, accountsWhy, bankCodesOn, bankCodesWhy, centsOn, centsWhy};
 ghost use Rattle.payment_fields.specs.Stretches.{receiver, receiversOn, receiverWhy, amount, amountsOn, names, partCount};
@@ -116,6 +116,15 @@ pub fn key_ok(kind: FileKind, v: u64) -> bool
     (v == 4) | (v == 5)
 }
 
+// The supplement is one of this key: with 54 any is.
+pub fn supplement_ok(key: u64, v: u64) -> bool
+    ensures { λ r. ⌜ r ≡ supplementOk key v ⌝ }
+{
+    let plain = ((key == 4) | (key == 51) | (key == 53)) & ((v == 0) | (v == 888));
+    let debit = (key == 5) & ((v == 0) | (v == 888) | (v == 5) | (v == 6) | (v == 15));
+    plain | debit | ((key == 56) & (v == 0)) | (key == 54)
+}
+
 // C4, added to the sum of bank codes.
 fn bank_code_into(s: &[u8], p: usize, sum: BankCodeSum) -> BankCodesRead
     ensures { λ r. ⌜ r ≡ ofField (bankCodesOn (sum .0)) p (p + 8) (fieldAt (digits 8) (rulesC4 (sum .0)) (now (s .entry)) p) ⌝ }
@@ -176,6 +185,20 @@ fn key_at(s: &[u8], p: usize, kind: FileKind) -> Number
     };
     if !key_ok(kind, v) {
         return Number::Refused(fields::refuse(refusals::NO_KEY, p));
+    }
+    Number::Is(v, q)
+}
+
+// C7b, where C7a is key.
+fn supplement_at(s: &[u8], p: usize, key: u64) -> Number
+    ensures { λ r. ⌜ r ≡ ofField numbers p (p + 3) (fieldAt (digits 3) (rulesC7b key) (now (s .entry)) p) ⌝ }
+{
+    let c7b = fields::number_at(s, p, width::C7B);
+    let Number::Is(v, q) = c7b else {
+        return Number::Refused(c7b.why());
+    };
+    if !supplement_ok(key, v) {
+        return Number::Refused(fields::refuse(refusals::NO_SUPPLEMENT, p));
     }
     Number::Is(v, q)
 }
@@ -271,10 +294,10 @@ pub fn receiver_at(
         return ReceiverRead::Refused(c6.why());
     };
     let c7a = key_at(s, p7a, kind);
-    let Number::Is(_, p7b) = c7a else {
+    let Number::Is(key, p7b) = c7a else {
         return ReceiverRead::Refused(c7a.why());
     };
-    let c7b = fields::number_at(s, p7b, width::C7B);
+    let c7b = supplement_at(s, p7b, key);
     let Number::Is(_, p8) = c7b else {
         return ReceiverRead::Refused(c7b.why());
     };

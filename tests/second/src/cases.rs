@@ -237,6 +237,60 @@ fn single_fields_on_both_sides() {
 }
 
 #[test]
+fn keys_and_supplements_on_both_sides() {
+    let cases = [
+        ("LK", "04000", (0, 0)),
+        ("LK", "04888", (0, 0)),
+        ("LK", "04005", (21, 174)),
+        ("LK", "05005", (0, 0)),
+        ("LB", "05006", (0, 0)),
+        ("LK", "05015", (0, 0)),
+        ("LK", "05888", (0, 0)),
+        ("LK", "05051", (21, 174)),
+        ("LB", "05008", (21, 174)),
+        ("GK", "51888", (0, 0)),
+        ("GK", "51889", (21, 174)),
+        ("GK", "51015", (21, 174)),
+        ("GB", "53888", (0, 0)),
+        ("GK", "53001", (21, 174)),
+        ("GK", "54999", (0, 0)),
+        ("GK", "56000", (0, 0)),
+        ("GK", "56888", (21, 174)),
+        ("GK", "510X1", (3, 174)),
+        ("GK", "5499 ", (3, 174)),
+        ("GK", "55051", (12, 172)),
+        ("GK", "05051", (12, 172)),
+        ("GK", "5X051", (3, 172)),
+    ];
+    for (kind, key_and_supplement, expected) in cases {
+        let file = changed(m(), 5, kind.as_bytes());
+        let file = changed(file, 172, key_and_supplement.as_bytes());
+        assert_eq!(verdict_on(&file), expected, "{kind} {key_and_supplement}");
+    }
+}
+
+#[test]
+fn a_supplement_follows_the_key_of_its_own_payment() {
+    let two = samples::file(&[samples::payment(1, &[]), samples::payment(2, &[])]);
+    let with_keys = |first, second| {
+        let file = changed(two.clone(), 172, first);
+        verdict_on(&changed(file, 172 + 256, second))
+    };
+    assert_eq!(with_keys(b"51000", b"54123"), (0, 0));
+    assert_eq!(with_keys(b"54123", b"51000"), (0, 0));
+    assert_eq!(with_keys(b"54123", b"51123"), (21, 430));
+    assert_eq!(with_keys(b"51123", b"54123"), (21, 174));
+}
+
+#[test]
+fn a_wrong_supplement_is_refused_once_it_is_whole() {
+    let wrong = changed(m(), 172, b"51889");
+    assert_eq!(verdict_on(&wrong[..176]), (1, 174));
+    assert_eq!(verdict_on(&wrong[..177]), (21, 174));
+    assert_eq!(verdict_on(&changed(wrong, 177, b"X")), (21, 174));
+}
+
+#[test]
 fn the_figures_of_the_end_are_compared_not_taken() {
     assert_eq!(m_with(430, b"2"), (14, 414));
     assert_eq!(m_with(447, b"1"), (14, 431));

@@ -222,6 +222,12 @@ mod tests {
             ("0000000000000", "0000000000001", (11, 96)),
             ("\t51\t", "\t04\t", (12, 110)),
             ("\t000\t", "\t00X\t", (3, 113)),
+            ("\t000\t", "\t889\t", (21, 113)),
+            ("\t000\t", "\t888\t", (0, 0)),
+            ("\t000\t", "\t0000\t", (17, 65)),
+            ("51\t000", "56\t888", (21, 113)),
+            ("51\t000", "54\t999", (0, 0)),
+            ("51\t000", "55\t051", (12, 110)),
             ("20050010", "00050010", (11, 117)),
             ("0001234567", "0000000000", (11, 126)),
             ("00000012345", "00000000000", (11, 137)),
@@ -232,6 +238,21 @@ mod tests {
         ];
         for (old, new, expected) in cases {
             assert_eq!(refused(&with(old, new)), expected, "{old} to {new}");
+        }
+    }
+
+    #[test]
+    fn supplements_of_debits_are_held_against_their_key() {
+        let cases = [
+            ("04\t000", (0, 0)),
+            ("04\t005", (21, 113)),
+            ("05\t005", (0, 0)),
+            ("05\t051", (21, 113)),
+        ];
+        for (key_and_supplement, expected) in cases {
+            let debits = m_listing().replace("GK", "LK");
+            let listing = debits.replace("51\t000", key_and_supplement);
+            assert_eq!(refused(&listing), expected, "{key_and_supplement}");
         }
     }
 

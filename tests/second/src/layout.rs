@@ -3,7 +3,7 @@
 use Content::{Blanks, Digits, ExecutionDate, Figure, FileKind, Fixed, Name, Text, Zeros};
 use Meaning::{
     Account, Amount, BankCode, CountedAccount, CountedBankCode, CreationDate, Customer, Free, Key,
-    Mark, SendingBank,
+    Mark, SendingBank, Supplement,
 };
 
 /// What a field holds. The order in a field is the same everywhere: first its bytes, then their meaning.
@@ -35,6 +35,7 @@ pub enum Meaning {
     CountedAccount,
     Customer,
     Key,
+    Supplement,
     BankCode,
     Account,
     Amount,
@@ -106,7 +107,7 @@ const CONSTANT_PART: [Field; 20] = [
     listed(10, Digits(CountedAccount)), // C5
     listed(13, Digits(Customer)),       // C6
     listed(2, Digits(Key)),             // C7a
-    listed(3, Digits(Free)),            // C7b
+    listed(3, Digits(Supplement)),      // C7b
     hidden(1, Blanks),                  // C8
     hidden(11, Zeros),                  // C9
     listed(8, Digits(BankCode)),        // C10

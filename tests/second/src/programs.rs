@@ -74,6 +74,10 @@ mod tests {
         assert_eq!(printed(compose, b""), b"18\t0\n");
         let damaged = samples::changed(m(), 394, b"0000002");
         assert_eq!(printed(list, &damaged), b"14\t394\n");
+        let mistyped = samples::changed(m(), 174, b"051");
+        assert_eq!(printed(list, &mistyped), b"21\t174\n");
+        let mistyped = m_listing().replace("\t000\t", "\t051\t");
+        assert_eq!(printed(compose, mistyped.as_bytes()), b"21\t113\n");
     }
 
     #[test]

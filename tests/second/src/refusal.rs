@@ -24,6 +24,7 @@ pub enum Number {
     LineMissing = 18,
     NotThere = 19,
     InputTooLong = 20,
+    NoSupplement = 21,
 }
 
 impl Number {
@@ -78,6 +79,7 @@ mod tests {
         assert_eq!(Number::LineMissing.at(7).code(), 18);
         assert_eq!(Number::NotThere.at(7).code(), 19);
         assert_eq!(Number::InputTooLong.at(7).code(), 20);
+        assert_eq!(Number::NoSupplement.at(7).code(), 21);
         assert_eq!(Number::NoKey.at(7).place, 7);
     }
 

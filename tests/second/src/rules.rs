@@ -25,6 +25,7 @@ pub struct Ledger {
     from_bank: bool,
     created: u64,
     parts: usize,
+    key: u64,
     marks: Marks,
     entry: Entry,
     totals: Totals,
@@ -118,7 +119,11 @@ impl Ledger {
                 let framed = bytes.starts_with(b"0") && bytes.ends_with(b"0");
                 demand(framed, Number::Condition)
             }
-            Meaning::Key => demand(self.is_key(value), Number::NoKey),
+            Meaning::Key => {
+                self.key = value;
+                demand(self.is_key(value), Number::NoKey)
+            }
+            Meaning::Supplement => demand(self.is_supplement(bytes), Number::NoSupplement),
             Meaning::BankCode => bank_code(bytes),
             Meaning::Account => not_zero(value),
             Meaning::Amount => {
@@ -142,6 +147,18 @@ impl Ledger {
             matches!(key, 4 | 5)
         } else {
             matches!(key, 51 | 53 | 54 | 56)
+        }
+    }
+
+    /// Whether the supplement goes with the key before it: annex 1 of the diskette document.
+    fn is_supplement(&self, supplement: &[u8]) -> bool {
+        match self.key {
+            4 | 51 | 53 => matches!(supplement, b"000" | b"888"),
+            5 => matches!(supplement, b"000" | b"888" | b"005" | b"006" | b"015"),
+            56 => supplement == b"000",
+            54 => true,
+            // No other key gets past C7a.
+            _ => false,
         }
     }
 }
@@ -229,6 +246,45 @@ mod tests {
                     expected
                 );
             }
+        }
+    }
+
+    /// The supplements, of all there could be, that a file of this kind takes with the key.
+    fn supplements(kind: &str, key: &str) -> Vec<String> {
+        let mut ledger = Ledger::default();
+        assert_eq!(ledger.take(FileKind, kind.as_bytes()), Ok(()));
+        assert_eq!(ledger.take(Digits(Meaning::Key), key.as_bytes()), Ok(()));
+        let mut all: Vec<String> = (0..1000).map(|value| format!("{value:03}")).collect();
+        all.retain(|supplement| {
+            let answer = ledger.take(Digits(Meaning::Supplement), supplement.as_bytes());
+            assert!(matches!(answer, Ok(()) | Err(Number::NoSupplement)));
+            answer.is_ok()
+        });
+        all
+    }
+
+    #[test]
+    fn each_key_has_its_own_supplements() {
+        for kind in ["LK", "LB"] {
+            assert_eq!(supplements(kind, "04"), ["000", "888"]);
+            let of_05 = ["000", "005", "006", "015", "888"];
+            assert_eq!(supplements(kind, "05"), of_05);
+        }
+        for kind in ["GK", "GB"] {
+            assert_eq!(supplements(kind, "51"), ["000", "888"]);
+            assert_eq!(supplements(kind, "53"), ["000", "888"]);
+            assert_eq!(supplements(kind, "54").len(), 1000);
+            assert_eq!(supplements(kind, "56"), ["000"]);
+        }
+    }
+
+    #[test]
+    fn the_digits_of_a_supplement_come_before_its_key() {
+        for (key, supplement) in [("51", b"0X1"), ("54", b"99 "), ("56", b"/00")] {
+            let mut ledger = Ledger::default();
+            assert_eq!(ledger.take(Digits(Meaning::Key), key.as_bytes()), Ok(()));
+            let answer = ledger.take(Digits(Meaning::Supplement), supplement);
+            assert_eq!(answer, Err(Number::NoDigit));
         }
     }
 

@@ -36,7 +36,7 @@ past6 : (c : tie.After-known-told6) → Next (past5 (c .before .before .before .
 past6 c = past-ruled (past5 (c .before .before .before .before)) (number-is _ _ _ (c .before .before .before .key-at .ensures) (c .before .c7a .given .1))
 
 past7 : (c : tie.After-known-told7) → Next (past6 (c .before .before .before .before)) (c .before .c7b .given .0 .0) (c .before .c7b .given .0 .1 .0)
-past7 c = past (past6 (c .before .before .before .before)) (number-is _ _ _ (c .before .before .before .number-at2 .ensures) (c .before .c7b .given .1))
+past7 c = past-ruled (past6 (c .before .before .before .before)) (number-is _ _ _ (c .before .before .before .supplement-at .ensures) (c .before .c7b .given .1))
 
 slice-aggregate-fixed-at : tie.Need-slice-aggregate-fixed-at
 slice-aggregate-fixed-at c = search needs
@@ -131,8 +131,8 @@ why-requires-6 c κs = search needs
 returns-6 : tie.Need-returns-6
 returns-6 c = stop-ruled numbers-told _ (past5 (c .before .before .before .before)) (c .before .before .before .key-at .ensures) (c .before .enum-told6 .given .1) (c .why6 .ensures)
 
-number-at-requires-2 : tie.Need-number-at-requires-2
-number-at-requires-2 c κs = search needs
+supplement-at-requires : tie.Need-supplement-at-requires
+supplement-at-requires c κs = search needs
 
 enum-known-c7b : tie.Need-enum-known-c7b
 enum-known-c7b c = search needs
@@ -144,7 +144,7 @@ why-requires-7 : tie.Need-why-requires-7
 why-requires-7 c κs = search needs
 
 returns-7 : tie.Need-returns-7
-returns-7 c = stop numbers-told _ (past6 (c .before .before .before .before)) (c .before .before .before .number-at2 .ensures) (c .before .enum-told7 .given .1) (c .why7 .ensures)
+returns-7 c = stop-ruled numbers-told _ (past6 (c .before .before .before .before)) (c .before .before .before .supplement-at .ensures) (c .before .enum-told7 .given .1) (c .why7 .ensures)
 
 returns-8 : tie.Need-returns-8
 returns-8 c =
@@ -188,7 +188,7 @@ receiver-at-spec =
     enum-told-6
     why-requires-6
     returns-6
-    number-at-requires-2
+    supplement-at-requires
     enum-known-c7b
     enum-told-7
     why-requires-7

@@ -75,6 +75,24 @@ fn outputs_come_back_whole() {
     assert_eq!(answers(&refused), "18\t0\t0\n\n");
 }
 
+#[test]
+fn a_supplement_that_its_key_lacks_is_21_in_every_call() {
+    let file = samples::changed(m(), 174, b"051");
+    let checked = request('C', [0; 4], &file, b"");
+    assert_eq!(answers(&checked), "21\t174\t0\t0\t0\t0\n");
+    let loaded = request('L', [1, 0, 0, 0], &file, b"00000000000000009");
+    let expected = "21\t174\t0\t0\t0\t0\n9 \n\n\n\n";
+    assert_eq!(answers(&loaded), expected);
+    let listed = request('P', [3, 0, 0, 0], &file, b"abc");
+    assert_eq!(answers(&listed), "21\t174\t0\nabc\n");
+    assert_eq!(viewed('F', [0, 0, 0], &file), "21\t174\t0\t0\n");
+    assert_eq!(viewed('H', [128, 14, 0], &file), "21\t174\t0\t0\n");
+    assert_eq!(viewed('V', [0, 14, 0], &file), "21\t174\t0\n\n");
+    let listing = m_listing().replace("\t000\t", "\t051\t");
+    let made = request('M', [3, 0, 0, 0], listing.as_bytes(), b"abc");
+    assert_eq!(answers(&made), "21\t113\t0\nabc\n");
+}
+
 /// The answer to a call of the view: `numbers` are a payment or a start, a field and a part.
 fn viewed(letter: char, [which, field, part]: [usize; 3], input: &[u8]) -> String {
     // Whatever the last number is, nothing is lent.
