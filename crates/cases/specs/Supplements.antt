@@ -64,9 +64,10 @@ fileOf c = put 5 (c .kind) (put 172 (c .key) (put 174 (c .supplement) fileM))
 abbrev listingOf : Keyed → List ℕ
 listingOf c = lineOf (set wordsA 1 (c .kind)) ++ lineOf (set (set wordsC 5 (c .key)) 6 (c .supplement))
 
-abbrev both : Keyed → (ℕ × ℕ) × (ℕ × ℕ)
-both c = (given (record { file = fileOf c; number = c .number; place = c .place }), reached (filed (listingOf c)))
+-- the number and the place that the file is given, and those that the listing is given
+abbrev answers : Keyed → (ℕ × ℕ) × (ℕ × ℕ)
+answers c = (given (record { file = fileOf c; number = c .number; place = c .place }), reached (filed (listingOf c)))
 
-pub keyed-hold : map both keyed ≡ map (λ (c : Keyed). ((c .number, c .place), (c .number, c .placeInListing))) keyed
+pub keyed-hold : map answers keyed ≡ map (λ (c : Keyed). ((c .number, c .place), (c .number, c .placeInListing))) keyed
 unfolding keyed given filed
 keyed-hold = refl
