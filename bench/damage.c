@@ -10,22 +10,51 @@
 // A small file, and the copies of it: with one byte changed, cut, with one byte more.
 enum { SMALL_FILE = 3000, CHANGED = 5000, CUT = 400, LENGTHENED = 100, SEED = 19760701 };
 
-// What was compared so far, and the numbers that were met.
+// What was compared so far, the numbers that were met, and the one that was met last.
 struct tally {
     int inputs;
     bool met[256];
+    uint8_t last;
 };
 
 // The numbers that the damage must have led to: all that a file, or a listing, can get but those of
 // too many payments and of too little room.
-static const uint8_t of_files[] = {1, 2, 3, 4, 5, 9, 10, 11, 12, 13, 14, 15, 21};
-static const uint8_t of_listings[] = {2, 3, 4, 9, 10, 11, 12, 13, 17, 18, 21};
+static const uint8_t of_files[] = {1, 2, 3, 4, 5, 9, 10, 11, 12, 13, 14, 15, 21, 22, 23};
+static const uint8_t of_listings[] = {2, 3, 4, 9, 10, 11, 12, 13, 17, 18, 21, 22, 23};
 
 // A hundred payments of the most cents are just acceptable; with A and E they take so many bytes.
 enum { RICH_FILE = 100 * 256 + 256 };
 
 static const struct shape mixed = {"mixed", 15, 0};
 static const struct shape rich = {"rich", 2, MOST_CENTS_OF_ONE};
+
+// Where A7 and A11b stand in a file, and in a listing whose A6 has eleven signs.
+enum { A7 = 50, A11B = 95, LISTED_A7 = 35, LISTED_A11B = 64 };
+
+// The days of creation and of execution, A7 and A11b, and the number that they lead to.
+struct days {
+    const char *creation;
+    const char *execution;
+    uint8_t number;
+};
+
+// On both sides of every line: both ends of the span, the ends of months and years, leap years, the
+// year of two digits from which the century is another, days that are none. A byte that is no digit
+// comes ahead of all that, A7 ahead of A11b.
+static const struct days days[] = {
+    {"150304", "15032004", 0},  {"150304", "14032004", 22}, {"150304", "30032004", 0},
+    {"150304", "31032004", 23}, {"290204", "15032004", 0},  {"290204", "16032004", 23},
+    {"010304", "29022004", 22}, {"280203", "15032003", 0},  {"280203", "16032003", 23},
+    {"010303", "29022003", 10}, {"300403", "31042003", 10}, {"311299", "01012000", 0},
+    {"010100", "31121999", 22}, {"290200", "29022000", 0},  {"311279", "15012080", 0},
+    {"311279", "16012080", 23}, {"010180", "31121979", 22}, {"010180", "01012080", 23},
+    {"150304", "29021900", 10}, {"150304", "29022000", 22}, {"150304", "29022100", 10},
+    {"150304", "15030000", 10}, {"150304", "01010001", 22}, {"150304", "31129999", 23},
+    {"150304", "00000000", 10}, {"150304", "00032004", 10}, {"150304", "32032004", 10},
+    {"150304", "15002004", 10}, {"150304", "15132004", 10}, {"150304", "    2004", 3},
+    {"150304", "3203200X", 3},  {"290203", "15032004", 10}, {"150004", "15032004", 10},
+    {"151304", "3203200X", 10}, {"15030X", "32032004", 3},
+};
 
 // A byte such as records and listings have, or any.
 static uint8_t some_byte(struct chance *chance) {
@@ -73,6 +102,7 @@ static bool agree_on_input(const uint8_t *input, size_t length, bool is_file, st
         if (!same_answer(call, &work, length / 256, 4 * length, &number))
             return false;
         tally->met[number] = true;
+        tally->last = number;
     }
     return true;
 }
@@ -90,13 +120,32 @@ static bool agree_on_copies(const uint8_t *input, size_t length, bool is_file,
     return same;
 }
 
+// Copies of the input with other days, each of which leads to its number.
+static bool agree_on_days(const uint8_t *input, size_t length, bool is_file, struct tally *tally) {
+    uint8_t *copy = allocate(length);
+    bool same = true;
+    memcpy(copy, input, length);
+    for (size_t i = 0; same && i < sizeof days / sizeof days[0]; i++) {
+        memcpy(copy + (is_file ? A7 : LISTED_A7), days[i].creation, 6);
+        memcpy(copy + (is_file ? A11B : LISTED_A11B), days[i].execution, 8);
+        same = agree_on_input(copy, length, is_file, tally) && tally->last == days[i].number;
+        if (!same)
+            printf("%s and %s do not give %u\n", days[i].creation, days[i].execution,
+                   days[i].number);
+    }
+    free(copy);
+    return same;
+}
+
 static bool agree_on_small_file(struct tally *files, struct tally *listings) {
     size_t payments, listing_length;
     uint8_t *file = allocate(SMALL_FILE + LONGER);
     size_t length = generate(file, SMALL_FILE, &mixed, &payments);
     uint8_t *listing = listing_of(file, length, &listing_length);
     bool same = agree_on_copies(file, length, true, files) &&
-                agree_on_copies(listing, listing_length, false, listings);
+                agree_on_days(file, length, true, files) &&
+                agree_on_copies(listing, listing_length, false, listings) &&
+                agree_on_days(listing, listing_length, false, listings);
     free(listing);
     free(file);
     return same;
@@ -140,8 +189,8 @@ static bool has_met(const struct tally *tally, const uint8_t *numbers, size_t co
 }
 
 bool agree_on_damage(void) {
-    struct tally files = {0, {false}};
-    struct tally listings = {0, {false}};
+    struct tally files = {0, {false}, 0};
+    struct tally listings = {0, {false}, 0};
     if (!agree_on_small_file(&files, &listings) || !agree_on_cents(&files, &listings))
         return false;
     print_tally("files", &files);

@@ -32,7 +32,7 @@ extern "C" {
 #endif
 
 // The version of this header: one more with each change of an answer, a figure or a call.
-#define DTAUS_VERSION 2
+#define DTAUS_VERSION 3
 
 // The version of the header that belongs to the archive. A program that compares it with
 // DTAUS_VERSION knows that what it was compiled with and what it was linked with belong together.
@@ -53,22 +53,24 @@ enum dtaus_number {
     DTAUS_BANK_CODES_OVER = 8,  // C4 takes the sum of bank codes above 17 digits
     DTAUS_CENTS_OVER = 9,       // C12 takes the sum of cents above 13 digits, or a payment begins
                                 // though the sum is 9,999,999,999,999
-    DTAUS_NO_DATE = 10,         // A7 or A11b is no date, or A11b is not A7's day to 15 days later
+    DTAUS_NO_DATE = 10,         // A7 or A11b is no day of the calendar
     DTAUS_CONDITION = 11,       // C4 or C10 begins with 0 or 9; C5, C11 or C12 is zero; C14a or C15
                                 // is blank; C6 does not begin and end with 0; C18 is not as C1
                                 // tells; A5 is not zero in a customer's file (A3 ends in K)
-    DTAUS_NO_KEY = 12,       // C7a is no key of this kind of file: 51, 53, 54, 56 where A3 begins
-                             // with G, 04, 05 where it begins with L
-    DTAUS_NO_MARK = 13,      // the mark of an extension part cannot stand here
-    DTAUS_NOT_COUNTED = 14,  // a figure of E is not the counted one
-    DTAUS_SURPLUS = 15,      // bytes follow E; the place is the first of them
-    DTAUS_NO_ROOM = 16,      // the input is accepted, but a column or the output is too short;
-                             // or, ahead of all else, the result is too short
-    DTAUS_NO_LINE = 17,      // a line of the listing has not its form; the place is its start
-    DTAUS_ENDS_EARLY = 18,   // the listing has no line of A, or of a payment; place: its end
-    DTAUS_NO_SUCH = 19,      // the file is accepted, but has no such payment, or it no such part
-    DTAUS_NO_SUPPLEMENT = 21 // C7b is no supplement of its key C7a: 000 and 888 with 04, 51, 53;
-                             // 000, 888, 005, 006, 015 with 05; 000 with 56; any with 54
+    DTAUS_NO_KEY = 12,        // C7a is no key of this kind of file: 51, 53, 54, 56 where A3 begins
+                              // with G, 04, 05 where it begins with L
+    DTAUS_NO_MARK = 13,       // the mark of an extension part cannot stand here
+    DTAUS_NOT_COUNTED = 14,   // a figure of E is not the counted one
+    DTAUS_SURPLUS = 15,       // bytes follow E; the place is the first of them
+    DTAUS_NO_ROOM = 16,       // the input is accepted, but a column or the output is too short;
+                              // or, ahead of all else, the result is too short
+    DTAUS_NO_LINE = 17,       // a line of the listing has not its form; the place is its start
+    DTAUS_ENDS_EARLY = 18,    // the listing has no line of A, or of a payment; place: its end
+    DTAUS_NO_SUCH = 19,       // the file is accepted, but has no such payment, or it no such part
+    DTAUS_NO_SUPPLEMENT = 21, // C7b is no supplement of its key C7a: 000 and 888 with 04, 51, 53;
+                              // 000, 888, 005, 006, 015 with 05; 000 with 56; any with 54
+    DTAUS_TOO_EARLY = 22,     // A11b is a day before that of A7
+    DTAUS_TOO_LATE = 23       // A11b is a day more than 15 days after that of A7
 };
 
 // How many figures the layout of each result has.
@@ -90,8 +92,8 @@ enum dtaus_number {
 // result[0] number, [1] place, [2] count of payments, [3] sum of account numbers (C5), [4] sum of
 // bank codes (C4), [5] sum of cents (C12). The sums are added up from the payments.
 //
-// Refuses with 16 where the result is too short; then with 1 to 15 or 21. It writes to `result`
-// alone.
+// Refuses with 16 where the result is too short; then with 1 to 15 or 21 to 23. It writes to
+// `result` alone.
 uint8_t dtaus_check(const uint8_t *file, size_t file_length, uint64_t *result,
                     size_t result_length);
 
@@ -104,8 +106,8 @@ uint8_t dtaus_check(const uint8_t *file, size_t file_length, uint64_t *result,
 //
 // result: as of dtaus_check.
 //
-// Refuses with 16 where the result is too short; then with 1 to 15 or 21; then with 16 at 0 where a
-// column is too short. Columns then stay as they were.
+// Refuses with 16 where the result is too short; then with 1 to 15 or 21 to 23; then with 16 at 0
+// where a column is too short. Columns then stay as they were.
 uint8_t dtaus_load(const uint8_t *file, size_t file_length, uint64_t *bank_codes,
                    size_t bank_codes_length, uint64_t *accounts, size_t accounts_length,
                    uint64_t *cents, size_t cents_length, uint64_t *starts, size_t starts_length,
@@ -121,8 +123,8 @@ uint8_t dtaus_load(const uint8_t *file, size_t file_length, uint64_t *bank_codes
 //
 // result[0] number, [1] place, [2] length of the listing. Output behind that is never touched.
 //
-// Refuses with 16 where the result is too short; then with 1 to 15 or 21; then with 16 at 0 where
-// the output is too short. The output then stays as it was.
+// Refuses with 16 where the result is too short; then with 1 to 15 or 21 to 23; then with 16 at 0
+// where the output is too short. The output then stays as it was.
 uint8_t dtaus_list(const uint8_t *file, size_t file_length, uint8_t *output, size_t output_length,
                    uint64_t *result, size_t result_length);
 
@@ -136,9 +138,9 @@ uint8_t dtaus_list(const uint8_t *file, size_t file_length, uint8_t *output, siz
 // touched.
 //
 // Refuses with 16 where the result is too short; then line by line: with 17 at the line's start;
-// with 6 or 9 there, where no payment may begin; with 2, 3, 4, 9 to 13 and 21 at the field in the
-// listing. Then with 18 at the listing's end; then with 16 at 0 where the output is too short. The
-// output then stays as it was.
+// with 6 or 9 there, where no payment may begin; with 2, 3, 4, 9 to 13 and 21 to 23 at the field in
+// the listing. Then with 18 at the listing's end; then with 16 at 0 where the output is too short.
+// The output then stays as it was.
 uint8_t dtaus_compose(const uint8_t *listing, size_t listing_length, uint8_t *output,
                       size_t output_length, uint64_t *result, size_t result_length);
 
@@ -147,8 +149,8 @@ uint8_t dtaus_compose(const uint8_t *listing, size_t listing_length, uint8_t *ou
 // result[0] number, [1] place, [2] from: the payment's first byte, [3] to: the end of the file. So
 // file[from..to) is the payment and all that follows it.
 //
-// Refuses with 16 where the result is too short; then with 1 to 15 or 21; then with 19 at 0 where
-// the file has no such payment. It writes to `result` alone.
+// Refuses with 16 where the result is too short; then with 1 to 15 or 21 to 23; then with 19 at 0
+// where the file has no such payment. It writes to `result` alone.
 uint8_t dtaus_find(const uint8_t *file, size_t file_length, size_t payment, uint64_t *result,
                    size_t result_length);
 
@@ -159,8 +161,9 @@ uint8_t dtaus_find(const uint8_t *file, size_t file_length, size_t payment, uint
 // result[0] number, [1] place, [2] from, [3] to: the text is file[from..to), always 27 bytes, with
 // its closing blanks.
 //
-// Refuses with 16 where the result is too short; then with 1 to 15 or 21; then with 19 at 0 where
-// no payment of the file begins at start, or it has no such part. It writes to `result` alone.
+// Refuses with 16 where the result is too short; then with 1 to 15 or 21 to 23; then with 19 at 0
+// where no payment of the file begins at start, or it has no such part. It writes to `result`
+// alone.
 uint8_t dtaus_text(const uint8_t *file, size_t file_length, size_t start, size_t wanted,
                    uint64_t *result, size_t result_length);
 

@@ -51,5 +51,9 @@ enum number execution_day(const uint8_t *a11b, unsigned creation_day) {
     if (digits(a11b, 8, &date) != ACCEPTED)
         return NO_DIGIT;
     unsigned day = day_number(date / 1000000, date / 10000 % 100, date % 10000);
-    return day < creation_day || day > creation_day + 15 ? NO_DATE : ACCEPTED;
+    if (day == 0)
+        return NO_DATE;
+    if (day < creation_day)
+        return TOO_EARLY;
+    return day > creation_day + 15 ? TOO_LATE : ACCEPTED;
 }

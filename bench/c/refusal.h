@@ -25,6 +25,8 @@ enum number {
     NO_LINE = 17,
     ENDS_EARLY = 18,
     NO_SUPPLEMENT = 21,
+    TOO_EARLY = 22,
+    TOO_LATE = 23,
 };
 
 // The place is counted from the first byte of the file or listing, or of the record where a record

@@ -14,7 +14,7 @@ static const char *const reasons[] = {
     [DTAUS_ACCOUNTS_OVER] = "the sum of accounts takes more than 17 digits",
     [DTAUS_BANK_CODES_OVER] = "the sum of bank codes takes more than 17 digits",
     [DTAUS_CENTS_OVER] = "the sum of cents takes more than 13 digits",
-    [DTAUS_NO_DATE] = "no date, or an execution date that does not fit the creation date",
+    [DTAUS_NO_DATE] = "the calendar has no such day",
     [DTAUS_CONDITION] = "a value that the field may not have",
     [DTAUS_NO_KEY] = "the key is none of this kind of file",
     [DTAUS_NO_MARK] = "the mark of an extension part breaks the rules of marks",
@@ -22,6 +22,8 @@ static const char *const reasons[] = {
     [DTAUS_SURPLUS] = "bytes follow the trailer",
     [DTAUS_NO_ROOM] = "a lent column is too short",
     [DTAUS_NO_SUPPLEMENT] = "the supplement is none that goes with the key",
+    [DTAUS_TOO_EARLY] = "the execution date is before the creation date",
+    [DTAUS_TOO_LATE] = "the execution date is more than 15 days after the creation date",
 };
 
 // The table lacks the numbers that only other calls give, and those that a later library may have.

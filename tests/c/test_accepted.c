@@ -8,8 +8,8 @@
 #include "payments.h"
 #include "tests.h"
 
-// Where A3 stands in A, and C7a, which C7b follows, C14a, C15 and C16 in a payment.
-enum { A3 = 5, C7A = 44, C14A = 93, C15 = 128, C16 = 155 };
+// Where A3, A7 and A11b stand in A, and C7a, which C7b follows, C14a, C15 and C16 in a payment.
+enum { A3 = 5, A7 = 50, A11B = 95, C7A = 44, C14A = 93, C15 = 128, C16 = 155 };
 
 static void expect_totals(const struct answer *answer, const struct payments *payments) {
     uint64_t accounts = 0, bank_codes = 0, cents = 0;
@@ -152,6 +152,27 @@ static void test_file(const char *name, const struct bytes *file) {
     test_there_and_back(name, file);
 }
 
+// Case M with days of creation and of execution that go together.
+static void test_days(const struct samples *samples) {
+    static const struct {
+        const char *name;
+        const char *creation;
+        const char *execution;
+    } pairs[] = {{"executed on the day of creation", "150304", "15032004"},
+                 {"executed 15 days later", "150304", "30032004"},
+                 {"executed 15 days later, February has 28", "280203", "15032003"},
+                 {"executed 15 days later, February has 29", "290204", "15032004"},
+                 {"executed 15 days later, in 2080", "311279", "15012080"},
+                 {"executed in the next century", "311299", "01012000"}};
+    static struct bytes file;
+    file = samples->m;
+    for (size_t i = 0; i < sizeof pairs / sizeof pairs[0]; i++) {
+        put(&file, A7, pairs[i].creation);
+        put(&file, A11B, pairs[i].execution);
+        test_file(pairs[i].name, &file);
+    }
+}
+
 // Case M with other keys and supplements that go with them.
 static void test_supplements(const struct samples *samples) {
     static const struct {
@@ -180,5 +201,6 @@ void test_accepted(const struct samples *samples) {
     test_printed_listing(samples);
     for (size_t i = 0; i < sizeof files / sizeof files[0]; i++)
         test_file(files[i].name, files[i].file);
+    test_days(samples);
     test_supplements(samples);
 }

@@ -1,13 +1,14 @@
 // Tests of refused files: case M with bytes changed, cut or added. Every call that reads a file
 // gives the same number and place.
 #include "calls.h"
+#include "days.h"
 #include "dtaus.h"
 #include "harness.h"
 #include "payments.h"
 #include "tests.h"
 
-// Where C12 stands in a payment, and E4 in case M.
-enum { C12 = 79, M_E4 = 394 };
+// Where A7 and A11b stand in a file, C12 in a payment, and E4 in case M.
+enum { A7 = 50, A11B = 95, C12 = 79, M_E4 = 394 };
 
 static const struct damage damages[] = {
     {0, "0129", DTAUS_NOT_FIXED, 0, "A1"},
@@ -15,9 +16,9 @@ static const struct damage damages[] = {
     {7, "2005001X", DTAUS_NO_DIGIT, 7, "A4 has a letter"},
     {22, "1", DTAUS_CONDITION, 15, "A5 in a customer's file, its last byte"},
     {23, "m", DTAUS_NO_SIGN, 23, "A6 has a small letter"},
-    {50, "290203", DTAUS_NO_DATE, 50, "A7 is no day"},
-    {95, "3103200X", DTAUS_NO_DIGIT, 95, "A11b has a letter"},
-    {95, "31032004", DTAUS_NO_DATE, 95, "A11b is 16 days later"},
+    {A7, "15030X", DTAUS_NO_DIGIT, A7, "A7 has a letter"},
+    {A7, NO_CREATION, DTAUS_NO_DATE, A7, "A7 is no day"},
+    {A11B, "1503    ", DTAUS_NO_DIGIT, A11B, "A11b ends with blanks"},
     {126, "X", DTAUS_NOT_FIXED, 103, "A11c, its last byte"},
     {127, "2", DTAUS_NOT_FIXED, 127, "A12"},
     {128, "02X6", DTAUS_NO_DIGIT, 128, "C1 has a letter"},
@@ -88,6 +89,19 @@ static void test_changed(const struct samples *samples) {
         put(&file, damages[i].place, damages[i].bytes);
         expect_refused(&file, damages[i].number, damages[i].refused_at, damages[i].what);
     }
+}
+
+// A day of creation that is none comes before what is wrong with the day of execution.
+static void test_days(const struct samples *samples) {
+    static struct bytes file;
+    file = samples->m;
+    for (size_t i = 0; i < WRONG_DAYS; i++) {
+        put(&file, A7, wrong_days[i].creation);
+        put(&file, A11B, wrong_days[i].execution);
+        expect_refused(&file, wrong_days[i].number, A11B, wrong_days[i].what);
+    }
+    put(&file, A7, NO_CREATION);
+    expect_refused(&file, DTAUS_NO_DATE, A7, "A7 is no day, A11b a century later");
 }
 
 // In a file of debits 05 takes supplements that 04 does not.
@@ -165,6 +179,7 @@ static void test_next_payment(const struct samples *samples) {
 
 void test_damaged_files(const struct samples *samples) {
     test_changed(samples);
+    test_days(samples);
     test_debits(samples);
     test_cut(samples);
     test_surplus(samples);

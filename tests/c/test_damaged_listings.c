@@ -1,5 +1,6 @@
 // Tests of refused listings: case M's with bytes changed, put in, cut or added.
 #include "calls.h"
+#include "days.h"
 #include "dtaus.h"
 #include "harness.h"
 #include "tests.h"
@@ -10,13 +11,17 @@
 // Where its C12 begins.
 #define CENTS 137
 
+// Where A7 stands in the first line, and where A11b would.
+enum { A7 = 35, A11B = 64 };
+
 static const struct damage changed[] = {
     {0, "B", DTAUS_NO_LINE, 0, "the letter of the first line"},
     {2, "XK", DTAUS_NOT_FIXED, 2, "A3 is none of the four"},
     {5, "2005001X", DTAUS_NO_DIGIT, 5, "A4 has a letter"},
     {14, "00000001", DTAUS_CONDITION, 14, "A5 in a customer's file"},
     {23, "m", DTAUS_NO_SIGN, 23, "A6 has a small letter"},
-    {35, "290203", DTAUS_NO_DATE, 35, "A7 is no day"},
+    {A7, "15030X", DTAUS_NO_DIGIT, A7, "A7 has a letter"},
+    {A7, NO_CREATION, DTAUS_NO_DATE, A7, "A7 is no day"},
     {65, "E", DTAUS_NO_LINE, 65, "a line of E"},
     {76, "90050020", DTAUS_CONDITION, 76, "C4 begins with 9"},
     {76, "3005002X", DTAUS_NO_DIGIT, 76, "C4 has a letter"},
@@ -34,8 +39,8 @@ static const struct damage changed[] = {
 };
 
 static const struct damage inserted[] = {
-    {64, "31032004", DTAUS_NO_DATE, 64, "A11b is 16 days later"},
-    {64, "\r", DTAUS_NO_LINE, 0, "a carriage return in the first line"},
+    {A11B, "1503    ", DTAUS_NO_LINE, 0, "A11b ends with blanks"},
+    {A11B, "\r", DTAUS_NO_LINE, 0, "a carriage return in the first line"},
     {192, "\r", DTAUS_NO_SIGN, 185, "a carriage return in the second"},
     {76, "0", DTAUS_NO_LINE, 65, "C4 has nine digits"},
     {192, "\t02", DTAUS_NO_LINE, 65, "a mark without its text"},
@@ -65,6 +70,19 @@ static void test_damages(const struct samples *samples) {
         insert(&listing, inserted[i].place, inserted[i].bytes);
         expect_refused(&listing, inserted[i].number, inserted[i].refused_at, inserted[i].what);
     }
+}
+
+// A day of creation that is none comes before what is wrong with the day of execution.
+static void test_days(const struct samples *samples) {
+    static struct bytes listing;
+    for (size_t i = 0; i < WRONG_DAYS; i++) {
+        listing = samples->listing;
+        put(&listing, A7, wrong_days[i].creation);
+        insert(&listing, A11B, wrong_days[i].execution);
+        expect_refused(&listing, wrong_days[i].number, A11B, wrong_days[i].what);
+    }
+    put(&listing, A7, NO_CREATION);
+    expect_refused(&listing, DTAUS_NO_DATE, A7, "A7 is no day, A11b a century later");
 }
 
 // In a listing of debits 05 takes supplements that 04 does not.
@@ -121,6 +139,7 @@ static void test_exchanged(const struct samples *samples) {
 
 void test_damaged_listings(const struct samples *samples) {
     test_damages(samples);
+    test_days(samples);
     test_debits(samples);
     test_cut(samples);
     test_cents(samples);

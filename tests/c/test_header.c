@@ -18,6 +18,8 @@ void test_header(void) {
         expect_equal((uint64_t)in_order[i], i, "the number of a name");
     // 20 is given by the programs alone, and has no name.
     expect_equal(DTAUS_NO_SUPPLEMENT, 21, "the number of a name");
+    expect_equal(DTAUS_TOO_EARLY, 22, "the number of a name");
+    expect_equal(DTAUS_TOO_LATE, 23, "the number of a name");
     begin("header and archive belong together");
     expect_equal(dtaus_version(), DTAUS_VERSION, "the version of the archive");
 }

@@ -51,15 +51,13 @@ DOUBTFUL_DAYS = ("3104", "3106", "3109", "3111", "3002", "3102", "2902", "2802",
 
 def created_contents(header: Header) -> Iterator[Named]:
     """Contents for A7: no days, other days, and days that the execution is too early or too late for."""
-    written = header.created.strftime("%d%m%y")
     for day in NO_DAYS:
-        yield f"day {day}", (day + written[2:]).encode()
+        yield f"day {day}", day.encode() + written_creation(header.created)[2:]
     for year in ("00", "03", "04", "79", "80", "99"):
         for day in DOUBTFUL_DAYS:
             yield f"{day} of year {year}", (day + year).encode()
     for days in (-16, -15, -1, 1, 15, 16):
-        other = header.created + timedelta(days=days)
-        yield f"{days} days moved", other.strftime("%d%m%y").encode()
+        yield f"{days} days moved", written_creation(header.created + timedelta(days=days))
 
 
 def execution_contents(header: Header) -> Iterator[Named]:
@@ -77,8 +75,13 @@ def execution_contents(header: Header) -> Iterator[Named]:
         yield f"{width} blanks behind", whole[:-width] + b" " * width
 
 
+def written_creation(day: date) -> bytes:
+    return day.strftime("%d%m%y").encode()
+
+
 def written_execution(day: date) -> bytes:
-    return day.strftime("%d%m%Y").encode()
+    # The year apart, since strftime leaves out the zeros ahead of an early one.
+    return f"{day:%d%m}{day.year:04}".encode()
 
 
 def neighbours(content: bytes) -> Iterator[Named]:

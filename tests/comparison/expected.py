@@ -3,10 +3,15 @@
 from .document import Document, payment_contents
 from .requests import CHECK, COMPOSE, FIND, HAND, LIST, LOAD, VIEW, Column, Request
 
+NO_DIGIT = 3
+NO_DATE = 10
 TOO_SHORT = 16
+NO_LINE = 17
 NOT_THERE = 19
 TOO_LONG = 20
 NO_SUPPLEMENT = 21
+TOO_EARLY = 22
+TOO_LATE = 23
 # Behind number and place, so many figures are 0 where a call refuses.
 ZEROS_OF_REFUSAL = {CHECK: 4, LOAD: 4, LIST: 1, COMPOSE: 1, FIND: 2, HAND: 2, VIEW: 1}
 MOST_INPUT = 32_768

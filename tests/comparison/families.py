@@ -6,6 +6,7 @@ from random import Random
 
 from .damage_file import file_damages
 from .damage_listing import listing_damages
+from .days import tried_days
 from .document import Document, Placed
 from .inputs import Form, Input, valid_input, written_as
 from .layout import MOST_PARTS, base_name
@@ -44,7 +45,7 @@ def orders_of_marks(rng: Random) -> Iterator[Input]:
 
 
 FIRST_FAMILIES: tuple[Callable[[Random], Iterator[Input]], ...] = (
-    lengths, totals, random_inputs, valid_shapes, orders_of_marks, swept_bytes, wrong_supplements,
+    lengths, totals, random_inputs, valid_shapes, orders_of_marks, swept_bytes, wrong_supplements, tried_days,
 )
 
 

@@ -128,8 +128,11 @@ def swept_bytes(rng: Random) -> Iterator[Input]:
 
 
 def wrong_supplements(rng: Random) -> Iterator[Input]:
-    """Every key with every tried supplement that it does not take: refused where the supplement stands."""
-    for document, form in product(with_supplements(rng, taken=False), Form):
+    """Every key with every tried supplement that it does not take: refused where the supplement stands.
+
+    All files come first: of every so many inputs one goes through a program, and by turns these had one form.
+    """
+    for form, document in product(Form, with_supplements(rng, taken=False)):
         (payment,), written = document.payments, written_as(document, form)
         name = f"key {payment.key:02} with {payment.supplement:03}"
         (place,) = (field.place for field in written.fields if field.name == "C7b")

@@ -5,8 +5,8 @@ from dataclasses import dataclass, field
 
 CALLS = ("check", "load", "list", "compose", "find", "hand", "view", "dtlist", "dtmake")
 # The numbers that generated inputs can reach. 6 takes ten million payments, and nothing reaches 7 and 8.
-OF_FILE = (1, 2, 3, 4, 5, 9, 10, 11, 12, 13, 14, 15, 21)
-OF_LISTING = (2, 3, 4, 9, 10, 11, 12, 13, 16, 17, 18, 21)
+OF_FILE = (1, 2, 3, 4, 5, 9, 10, 11, 12, 13, 14, 15, 21, 22, 23)
+OF_LISTING = (2, 3, 4, 9, 10, 11, 12, 13, 16, 17, 18, 21, 22, 23)
 # Only the calls of the view are asked for a payment or a part, which may not be there.
 OF_VIEW = OF_FILE + (19,)
 REACHABLE = {

@@ -4,6 +4,7 @@ import sys
 import tempfile
 import unittest
 from dataclasses import dataclass, replace
+from itertools import product
 from pathlib import Path
 
 from . import comparing
@@ -115,6 +116,12 @@ class TestComparing(unittest.TestCase):
         for printed in (CASE_M.listing.data, b"21\t172\n", b"12\t174\n"):
             self.assertTrue(self.program_failed(wrong, printed, printed), printed)
 
+    def test_faults_of_a_day_are_told_apart(self) -> None:
+        late = replace(FILE_OF_M, valid=False, refusal=(23, 95))
+        self.assertFalse(self.program_failed(late, b"23\t95\n", b"23\t95\n"))
+        for printed in (b"10\t95\n", b"22\t95\n", b"23\t50\n"):
+            self.assertTrue(self.program_failed(late, printed, printed), printed)
+
     def view_failed(self, request: Request, ours: bytes, second: bytes) -> bool:
         family = self.family(Prepared({}, ours), Prepared({}, second))
         family.compare_batch([Asked(0, FILE_OF_M, [request])])
@@ -188,6 +195,10 @@ class TestAnswers(unittest.TestCase):
         missing = [("compose", 18), ("find", 9), ("hand", 15), ("view", 19)]
         self.assertEqual(missing_numbers(tally), missing)
 
+    def test_every_fault_of_a_day_has_to_be_met(self) -> None:
+        calls = ("check", "load", "list", "compose", "find", "hand", "view")
+        self.assertLessEqual(set(product(calls, (10, 22, 23))), set(missing_numbers(Tally())))
+
 
 class TestCases(unittest.TestCase):
     """Rows of the table about the view: what they ask for, and which answer meets them."""
@@ -208,6 +219,14 @@ class TestCases(unittest.TestCase):
         blanks = b"0\t0\t27\n" + b" " * 27 + b"\n"
         self.assertTrue(self.is_met("view 0 C16", "text \\s", blanks))
         self.assertFalse(self.is_met("view 0 C16", "text \\s", blanks.replace(b"27", b"0")))
+
+    def test_days(self) -> None:
+        base = "days 1999-12-31 2000-01-01"
+        file = changed(CASE_M.file.data, "50=311299, 95=01012000")
+        lines = changed(CASE_M.listing.data, "35=311299, put 64 01012000")
+        self.assertEqual(unchanged(base, as_named=True), file)
+        self.assertEqual(unchanged(base, as_named=False), lines)
+        self.assertEqual(unchanged(f"lines of {base}", as_named=True), lines)
 
     def test_keys(self) -> None:
         for base, changes in (("key LK 05 015", "5=LK, 172=05015"), ("key GK 54 999", "172=54999")):

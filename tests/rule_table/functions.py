@@ -4,10 +4,13 @@ import re
 from pathlib import Path
 
 from statements.calls import functions_of
+from statements.equations import outside
 from statements.sources import HEAD, read_sources
 
 CONSTANT = re.compile(r"^(?:pub )?const (\w+): u8 = (\d+);", re.MULTILINE)
 FACT = re.compile(r"returns(?:-(\d+))?")
+# Where a `return` ends; as an arm of a `match` it has a comma.
+END = re.compile("[;,]")
 
 
 class Functions:
@@ -58,6 +61,6 @@ class Functions:
         if not found or not ways:
             return ""
         turn = int(found[1] or 1)
-        if turn <= len(ways):
-            return ways[turn - 1].partition(";")[0]
-        return ways[-1].partition(";")[2]
+        way = ways[min(turn, len(ways)) - 1]
+        end = END.search(outside(way) + ";").start()
+        return way[:end] if turn <= len(ways) else way[end + 1:]

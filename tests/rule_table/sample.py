@@ -10,8 +10,12 @@ pub data Name : Type 0 where
 abbrev pub must : Name → List ℕ → Form Name (Value (fixed []))
 must ν bs = any ν (fixed bs)
 
+abbrev pub dateNumber : DateCase → ℕ
+dateNumber no-such-day = 10
+dateNumber too-late = 23
+
 abbrev pub dayRules : ℕ → List Rule
-dayRules n = rule 10 (isDay n) ∷ rule 10 (inSpan n) ∷ []
+dayRules n = rule 10 (isDay n) ∷ rule (dateNumber no-such-day) (isYear n) ∷ rule (dateNumber too-late) (inSpan n) ∷ []
 
 abbrev pub rulesA2 : Option ℕ → List Rule
 rulesA2 none = []
@@ -82,6 +86,9 @@ most = 9
 unfoldable pub isDay : ℕ → Bool
 isDay n = true
 
+abbrev pub isYear : ℕ → Bool
+isYear n = true
+
 abbrev pub inSpan : ℕ → Bool
 inSpan n = true
 
@@ -117,6 +124,7 @@ pub const NO_MORE: u8 = 6;
 pub const NO_DATE: u8 = 10;
 pub const NOT_COUNTED: u8 = 14;
 pub const NO_ROOM: u8 = 16;
+pub const TOO_LATE: u8 = 23;
 """
 FIELDS = """pub fn fixed_at(s: &[u8], p: usize) -> Passed
 {
@@ -153,10 +161,11 @@ CHECKER = """fn day_at(s: &[u8], p: usize) -> Day
             if !is_day(d) {
                 return Day::Refused(fields::refuse(refusals::NO_DATE, p));
             }
-            if !in_span(d) {
-                return Day::Refused(fields::refuse(refusals::NO_DATE, p));
+            match date_case(d) {
+                DateCase::NoYear => return Day::Refused(fields::refuse(refusals::NO_DATE, p)),
+                DateCase::TooLate => return Day::Refused(fields::refuse(refusals::TOO_LATE, p)),
+                DateCase::InOrder => Day::On(d, q),
             }
-            Day::On(d, q)
         }
         Number::Refused(r) => Day::Refused(r),
     }
@@ -214,7 +223,8 @@ dtlist | file    | 3=X         | 2 0      | A1
 dtlist | file    | cut 11      | 1 4      | A2
 dtlist | file    | 11=X        | 3 4      | A2
 dtlist | file    | 4=30022004  | 10 4     | A2
-dtlist | file    | 4=31032004  | 10 4     | A2
+dtlist | file    | 4=15030000  | 10 4     | A2
+dtlist | file    | 4=31032004  | 23 4     | A2
 dtlist | file    | cut 130     | 1 128    | C1
 dtlist | file    | 387=X       | 3 384    | E1
 dtlist | cents 7 |             | 5 25984  | C1
@@ -248,10 +258,11 @@ Tested by `checker::day_at`, called in `checker::file_at`.
 
 | no. | the requirements | rule | proved as | case | wrong edit |
 |---|---|---|---|---|---|
-| 1 | the file ends before it is whole | `ifWhole` | `returns-4` | `cut 11` | `last_field_is_short` |
-| 3 | a byte is no digit | `optional` | `returns-4` | `11=X` | `last_field_is_short` |
+| 1 | the file ends before it is whole | `ifWhole` | `returns-5` | `cut 11` | `last_field_is_short` |
+| 3 | a byte is no digit | `optional` | `returns-5` | `11=X` | `last_field_is_short` |
 | 10 | no date | `isDay` | `returns` | `4=30022004` | `last_field_is_short` |
-| 10 | outside its span | `inSpan` | `returns-2` | `4=31032004` | `last_field_is_short` |
+| 10 | no year | `isYear` | `returns-2` | `4=15030000` | `last_field_is_short` |
+| 23 | too late | `inSpan` | `returns-3` | `4=31032004` | `last_field_is_short` |
 
 ## C
 
@@ -352,6 +363,10 @@ Rules: [E2](RULES.md#e2).
 ## 16: no room
 
 Rules: [16](RULES.md#16).
+
+## 23: too late
+
+Rules: [A2](RULES.md#a2).
 """
 
 
@@ -373,7 +388,7 @@ FILES = {
     "crates/checker/src/lib.rt": CHECKER,
     "crates/fields/proofs/fixed_at/Proof.antt": proof(3),
     "crates/fields/proofs/number_at/Proof.antt": proof(3),
-    "crates/checker/proofs/day_at/Proof.antt": proof(4),
+    "crates/checker/proofs/day_at/Proof.antt": proof(5),
     "crates/checker/proofs/length_at/Proof.antt": proof(4),
     "crates/checker/proofs/figure_at/Proof.antt": proof(3),
     "crates/checker/proofs/check/Proof.antt": proof(2),

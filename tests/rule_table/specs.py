@@ -45,6 +45,11 @@ class Specs:
         found = re.search(rf"^{name} \({first} .* = (.+)", self.definition(name), re.MULTILINE)
         return found[1] if found else ""
 
+    def case_of(self, name: str, case: str) -> str:
+        """The right side of the equation of a name for one case of a type."""
+        found = re.search(rf"^{name} {re.escape(case)} = (.+)", self.definition(name), re.MULTILINE)
+        return found[1] if found else ""
+
     def numbers_given(self, text: str) -> set[int]:
         """The numbers that a text gives, by itself or by a definition that it names."""
         named = [self.definition(word) for word in words(text)]

@@ -13,6 +13,7 @@ TREE = "crates/diskette/specs/Fields.antt"
 TABLE = "docs/RULES.md"
 ROW_OF_2 = "| 2 | not `0128` | `same` | `returns-2` | `3=X` | `fixed_bytes_not_compared` |\n"
 ROW_OF_5 = "| 5 | no length | `isLength` | `returns-2` | `cents 7` | `last_field_is_short` |\n"
+ROW_OF_23 = "| 23 | too late | `inSpan` | `returns-3` | `4=31032004` | `last_field_is_short` |\n"
 ROW_OF_6 = "| 6 | too many | `most` | `returns-3` | claim `limits-hold` | `last_field_is_short` |\n"
 A1_WITH_2 = f"{TREE}: A1 with 2, ifSo (same bs f) tt not-fixed"
 
@@ -43,7 +44,7 @@ class RulesTest(unittest.TestCase):
 
 class TestRight(RulesTest):
     def test_all_is_right(self) -> None:
-        headings, demands, sections, rows, numbers = 1, 17, 7, 19, 8
+        headings, demands, sections, rows, numbers = 1, 18, 7, 20, 9
         judged = headings + demands + sections + rows + numbers
         self.assertEqual(self.reported(), [f"{judged} passed, 0 failed"])
 
@@ -78,6 +79,10 @@ class TestDemands(RulesTest):
         rules = "rule 14 (eqb v counted) ∷ rule 6 (ltb v most) ∷ []"
         fault = f"{TREE}: E2 with 6, (ltb v most): {TABLE} has no row for it"
         self.assert_faults(TREE, "rule 14 (eqb v counted) ∷ []", rules, fault)
+
+    def test_a_number_that_a_case_is_given_otherwise(self) -> None:
+        reported = self.reported(TREE, "too-late = 23", "too-late = 22")
+        self.assertIn(f"{TREE}: A2 with 22, (inSpan n): {TABLE} has no row for it", reported)
 
     def test_a_number_that_the_reader_gives_otherwise(self) -> None:
         reported = self.reported("crates/verdict/specs/Verdicts.antt", "not-fixed = 2", "not-fixed = 7")
@@ -161,6 +166,9 @@ class TestRows(RulesTest):
         fault = "fields::fixed_at does not give 2 where {} is proved"
         self.assert_row_fault("`returns-2`", "`returns`", fault.format("returns"))
         self.assert_row_fault("`returns-2`", "`returns-3`", fault.format("returns-3"))
+        fault = "checker::day_at does not give 23 where {} is proved"
+        self.assert_row_fault("`returns-3`", "`returns-2`", fault.format("returns-2"), ROW_OF_23)
+        self.assert_row_fault("`returns-3`", "`returns-4`", fault.format("returns-4"), ROW_OF_23)
         fault = "checker::length_at does not give 6 where returns is proved"
         self.assert_row_fault("`returns-3`", "`returns`", fault, ROW_OF_6)
 
@@ -190,7 +198,7 @@ class TestNumbers(RulesTest):
 
     def test_another_number(self) -> None:
         self.assert_faults(
-            TABLE, self.ROW, self.ROW.replace("16", "14"), f"{TABLE}:87: it has 14 in the section of 16",
+            TABLE, self.ROW, self.ROW.replace("16", "14"), f"{TABLE}:88: it has 14 in the section of 16",
             "docs/REFUSALS.md: 14: no link to RULES.md#16",
         )
 

@@ -13,7 +13,8 @@ TREE = Path("crates/diskette/specs/Fields.antt")
 NAMES = re.compile(r"^pub data Name .*\n((?: .*\n)+)", re.MULTILINE)
 DEFINED = re.compile(r"^([\w-]+)(?: .*)? =")
 FIELD = re.compile(r"\b(must|any|get) (.+)")
-RULE = re.compile(r"\brule (\d+) (?=\()")
+# A rule's number is written out, or is that which a definition gives a case.
+RULE = re.compile(r"\brule (?:(\d+)|\((\w+) ([\w-]+)\)) (?=\()")
 
 # The record that each form of the tree is of, and where the record begins in case M. The first field of a C
 # is also that of E.
@@ -122,7 +123,7 @@ class Tree:
         _, _, equations = self.specs.definition(function).partition("\n")
         for found in RULE.finditer(equations):
             text = equations[found.end():closing_of(equations, found.end()) + 1]
-            yield Demand(int(found[1]), text, function)
+            yield Demand(int(found[1] or self.specs.case_of(found[2], found[3])), text, function)
         for name in sorted(words(equations) - {function}):
             if re.search(r": .*List Rule$", self.specs.definition(name).split("\n", 1)[0]):
                 yield from self.rules(name)

@@ -1,16 +1,24 @@
-// Days in narrow numbers: which days there are, how they are counted, the span between two, and the days that DDMMYY and DDMMYYYY name.
+// Days in narrow numbers: which days there are, how they are counted, what a date of execution can be, and the days that DDMMYY and DDMMYYYY name.
 ghost use mathlib.Core.Path.{_≡_};
 ghost use mathlib.Core.Bool.{_&&_};
 ghost use lib.Dec.{leb};
 ghost use Prim.Native.Nat.{_-_, _%_, _^_};
-ghost use Rattle.document.specs.Calendar.{leap, monthDays, isDay, yearsDays, monthsDays, dayNumber, inSpan, century, ofDDMMYY, ofDDMMYYYY};
-ghost use Rattle.calendar.specs.Days.{dayOf, dayFrom};
+ghost use Rattle.document.specs.Calendar.{leap, monthDays, isDay, yearsDays, monthsDays, dayNumber, dateCase, century, ofDDMMYY, ofDDMMYYYY};
+ghost use Rattle.calendar.specs.Days.{dayOf, dayFrom, caseFrom};
 
 // A day as the code holds it: narrow numbers, so that counting its days cannot wrap.
 pub struct Day {
     pub day: u8,
     pub month: u8,
     pub year: u16,
+}
+
+// What a date of execution can be.
+pub enum DateCase {
+    InOrder,
+    NoSuchDay,
+    TooEarly,
+    TooLate,
 }
 
 fn is_leap(year: u16) -> bool
@@ -102,12 +110,22 @@ fn day_number(d: Day) -> u64
     years + months + d.day as u64
 }
 
-// Whether d is the day `made` or one of the 15 days after it.
-pub fn in_span(made: Day, d: Day) -> bool
-    ensures { λ r. ⌜ r ≡ inSpan (dayOf made) (dayOf d) ⌝ }
+// What the date d of execution is, of a file made on the day `made`.
+pub fn date_case(made: Day, d: Day) -> DateCase
+    ensures { λ r. ⌜ r ≡ caseFrom (dateCase (dayOf made) (dayOf d)) ⌝ }
 {
-    let from = day_number(made);
-    within(day_number(d), from, from + 15)
+    if !is_day(d) {
+        return DateCase::NoSuchDay;
+    }
+    let first = day_number(made);
+    let day = day_number(d);
+    if day < first {
+        return DateCase::TooEarly;
+    }
+    if day > first + 15 {
+        return DateCase::TooLate;
+    }
+    DateCase::InOrder
 }
 
 // The year that the last two digits of n mean.

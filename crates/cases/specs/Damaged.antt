@@ -67,7 +67,8 @@ damaged =
     ∷ inM 94 "X" not-fixed 80 15 A11a
     ∷ inM 95 "1503200 " not-digit 95 8 A11b
     ∷ inM 95 "00000000" (breaks 10) 95 8 A11b
-    ∷ inM 95 "31032004" (breaks 10) 95 8 A11b
+    ∷ inM 95 "14032004" (breaks 22) 95 8 A11b
+    ∷ inM 95 "31032004" (breaks 23) 95 8 A11b
     ∷ inM 126 "X" not-fixed 103 24 A11c
     ∷ inM 127 "2" not-fixed 127 1 A12
     ∷ inM 131 "X" not-digit 128 4 C1-or-E1

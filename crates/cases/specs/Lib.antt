@@ -3,5 +3,7 @@ pub mod Others
 pub mod Damaged
 pub mod Met
 pub mod Listings
+pub mod Paired
 pub mod Supplements
+pub mod Dates
 pub mod ListingLimits

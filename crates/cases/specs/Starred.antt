@@ -19,8 +19,8 @@ starred =
     ∷ record { file = put 128 "0622" (put 313 "15" fileM); number = 13; place = 315 }
     -- A11b
     ∷ record { file = put 95 "30032004" fileM; number = 0; place = 0 }
-    ∷ record { file = put 95 "31032004" fileM; number = 10; place = 95 }
-    ∷ record { file = put 95 "14032004" fileM; number = 10; place = 95 }
+    ∷ record { file = put 95 "31032004" fileM; number = 23; place = 95 }
+    ∷ record { file = put 95 "14032004" fileM; number = 22; place = 95 }
     -- A3 LK; C4 beginning with 9; a small letter first in C14a; E4 0000002
     ∷ record { file = put 5 "LK" fileM; number = 12; place = 172 }
     ∷ record { file = put 141 "9" fileM; number = 11; place = 141 }

@@ -5,29 +5,32 @@ use mathlib.Core.Path.{_≡_, refl}
 use mathlib.Core.List.{List, [], _∷_, _++_, map}
 use lib.ListN.{set}
 use Rattle.diskette.specs.Cases.{fileM, put, given}
-use Rattle.cases.specs.Listings.{lineOf, wordsA, wordsC, filed, reached}
+use Rattle.cases.specs.Listings.{lineOf, wordsA, wordsC, filed}
+use Rattle.cases.specs.Paired.{Paired, answers, wantedOfBoth}
 
--- M with another kind of file, key and supplement: the number that its file and its listing are given, and the place in each
-pub record Keyed : Type 0 where
-  pub kind : String
-  pub key : String
-  pub supplement : String
-  pub number : ℕ
-  pub place : ℕ
-  pub placeInListing : ℕ
+-- M with another kind of file, key and supplement
+abbrev withKey : String → String → String → ℕ → ℕ → ℕ → Paired
+withKey kind key supplement number place placeInListing =
+    record {
+      file = put 5 kind (put 172 key (put 174 supplement fileM));
+      listing = lineOf (set wordsA 1 kind) ++ lineOf (set (set wordsC 5 key) 6 supplement);
+      number = number;
+      place = place;
+      placeInListing = placeInListing;
+    }
 
-abbrev accepted : String → String → String → Keyed
-accepted kind key supplement = record { kind = kind; key = key; supplement = supplement; number = 0; place = 0; placeInListing = 0 }
+abbrev accepted : String → String → String → Paired
+accepted kind key supplement = withKey kind key supplement 0 0 0
 
 -- refused with n at C7a
-abbrev atC7a : ℕ → String → String → String → Keyed
-atC7a n kind key supplement = record { kind = kind; key = key; supplement = supplement; number = n; place = 172; placeInListing = 110 }
+abbrev atC7a : ℕ → String → String → String → Paired
+atC7a n kind key supplement = withKey kind key supplement n 172 110
 
 -- refused with n at C7b
-abbrev atC7b : ℕ → String → String → String → Keyed
-atC7b n kind key supplement = record { kind = kind; key = key; supplement = supplement; number = n; place = 174; placeInListing = 113 }
+abbrev atC7b : ℕ → String → String → String → Paired
+atC7b n kind key supplement = withKey kind key supplement n 174 113
 
-unfoldable pub keyed : List Keyed
+unfoldable pub keyed : List Paired
 keyed =
     -- 04, 51 and 53: 000 or 888
     accepted "LK" "04" "000"
@@ -58,16 +61,6 @@ keyed =
     ∷ atC7a 12 "LK" "55" "051"
     ∷ []
 
-abbrev fileOf : Keyed → List ℕ
-fileOf c = put 5 (c .kind) (put 172 (c .key) (put 174 (c .supplement) fileM))
-
-abbrev listingOf : Keyed → List ℕ
-listingOf c = lineOf (set wordsA 1 (c .kind)) ++ lineOf (set (set wordsC 5 (c .key)) 6 (c .supplement))
-
--- the number and the place that the file is given, and those that the listing is given
-abbrev answers : Keyed → (ℕ × ℕ) × (ℕ × ℕ)
-answers c = (given (record { file = fileOf c; number = c .number; place = c .place }), reached (filed (listingOf c)))
-
-pub keyed-hold : map answers keyed ≡ map (λ (c : Keyed). ((c .number, c .place), (c .number, c .placeInListing))) keyed
+pub keyed-hold : map answers keyed ≡ map wantedOfBoth keyed
 unfolding keyed given filed
 keyed-hold = refl

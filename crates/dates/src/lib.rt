@@ -5,8 +5,9 @@ ghost use Rattle.form.specs.Kind.{digits, maybe};
 ghost use Rattle.form.specs.Place.{fieldAt};
 ghost use Rattle.diskette.specs.Fields.{rulesA7, rulesA11b};
 ghost use Rattle.calendar.specs.Days.{dayOf};
-ghost use Rattle.fields.specs.Answers.{ofField};
+ghost use Rattle.fields.specs.Answers.{refusalOf, ofField};
 ghost use Rattle.dates.specs.Dates.{days, dayWhy, executions, executionWhy};
+use calendar::DateCase;
 use calendar::Day;
 use fields::MaybeNumber;
 use fields::Number;
@@ -68,6 +69,13 @@ pub fn made_at(s: &[u8], p: usize) -> DayRead
     DayRead::Is(d, q)
 }
 
+// A11b refused with a number, at p.
+fn refused(number: u8, p: usize) -> ExecutionRead
+    ensures { λ r. ⌜ r ≡ executions .refuses (refusalOf number p) ⌝ }
+{
+    ExecutionRead::Refused(fields::refuse(number, p))
+}
+
 // The day of execution, A11b, at p, of a file made on the day `made`.
 pub fn execution_at(s: &[u8], p: usize, made: Day) -> ExecutionRead
     ensures { λ r. ⌜ r ≡ ofField executions p (p + 8) (fieldAt (maybe 8) (rulesA11b (dayOf made)) (now (s .entry)) p) ⌝ }
@@ -77,13 +85,12 @@ pub fn execution_at(s: &[u8], p: usize, made: Day) -> ExecutionRead
         MaybeNumber::Blank(q) => ExecutionRead::Is(Execution::Absent, q),
         MaybeNumber::Is(n, q) => {
             let d = calendar::of_ddmmyyyy(n);
-            if !calendar::is_day(d) {
-                return ExecutionRead::Refused(fields::refuse(refusals::NO_DATE, p));
+            match calendar::date_case(made, d) {
+                DateCase::NoSuchDay => return refused(refusals::NO_DATE, p),
+                DateCase::TooEarly => return refused(refusals::TOO_EARLY, p),
+                DateCase::TooLate => return refused(refusals::TOO_LATE, p),
+                DateCase::InOrder => ExecutionRead::Is(Execution::On(d), q),
             }
-            if !calendar::in_span(made, d) {
-                return ExecutionRead::Refused(fields::refuse(refusals::NO_DATE, p));
-            }
-            ExecutionRead::Is(Execution::On(d), q)
         }
         MaybeNumber::Refused(r) => ExecutionRead::Refused(r),
     }

@@ -9,9 +9,9 @@ use lib.ListN.{length}
 use lib.Dec.{T, eqb, ltb→lt, lt→ltb}
 use Rattle.form.specs.Kind.{maybe, fits, spell, among}
 use Rattle.form.specs.Form.{Holds, Filled, value, bytes}
-use Rattle.form.proofs.BoolLaws.{and-both}
+use Rattle.form.proofs.BoolLaws.{and-both, and-of}
 use Rattle.form.proofs.RulesLaws.{_▸_, ok, Filling, Told, Says}
-use Rattle.document.specs.Calendar.{Day, isDay, ofDDMMYY, toDDMMYY, toDDMMYYYY, ofDDMMYYYY}
+use Rattle.document.specs.Calendar.{Day, isDay, notTooEarly, notTooLate, ofDDMMYY, toDDMMYY, toDDMMYYYY, ofDDMMYYYY}
 use Rattle.document.specs.Values.{Header}
 use Rattle.document.specs.Rules.{fileKinds, LegalExecution, LegalHeader}
 use Rattle.diskette.specs.Writing.{writeExecution, writeHeader}
@@ -35,10 +35,11 @@ executes made none h y l = record { number = none; fits = tt; holds = tt; says =
 executes made (some d) h y l =
     let i = see-day d l.0 in
     let back = long-back d i in
+    let span = and-both (notTooEarly made d) (notTooLate made d) (span-counted made d h y i .0 l.1) in
     record {
       number = some (toDDMMYYYY d);
       fits = lt→ltb (toDDMMYYYY d) (10 ^ 8) (long-fits d i);
-      holds = rw back (l.0, (span-counted made d h y i .0 l.1, tt));
+      holds = rw back (l.0, (span.0, (span.1, tt)));
       says = ap {B = Option Day} some back;
       spelled = refl;
     }
@@ -46,7 +47,9 @@ executes made (some d) h y l =
 -- a content of A11b that keeps the rules of the form says a legal execution date
 execution-legal : (made : Day) (n : Option ℕ) → IsDay made → made .year < 9999 → Holds (executionRules made (executionOf n)) → LegalExecution made (executionOf n)
 execution-legal made none h y l = tt
-execution-legal made (some n) h y l = let d = ofDDMMYYYY n in (l.0, span-counted made d h y (see-day d l.0) .1 (l .1 .0))
+execution-legal made (some n) h y l =
+    let d = ofDDMMYYYY n in
+    (l.0, span-counted made d h y (see-day d l.0) .1 (and-of (notTooEarly made d) (notTooLate made d) (l .1 .0) (l .1 .1 .0)))
 
 execution-spelled : (n : Option ℕ) → spell (maybe 8) n ≡ writeExecution (executionOf n)
 execution-spelled none = refl

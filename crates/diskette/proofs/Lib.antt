@@ -1,3 +1,4 @@
+pub mod DateRules
 pub mod HeaderSays
 pub mod PartsSays
 pub mod PaymentSays

@@ -1,4 +1,4 @@
--- Which numbers the diskette form gives: its rules give 5 to 14 and 21, each record its own, so that a refused file has one of the numbers of a file.
+-- Which numbers the diskette form gives: its rules give 5 to 14 and 21 to 23, each record its own, so that a refused file has one of the numbers of a file.
 -- Field by field the number of each rule is looked up in the list of its record, which computes; the parts and the payments go by induction over
 -- those that are left. The lists of the records are then taken together (`numbered-within`), and what is broken is a rule of the form by
 -- `number-given`. The reasons that are no rule have their numbers by `numberOf`.
@@ -23,7 +23,7 @@ use Rattle.diskette.specs.Fields.{Name, executionOf, executionRules, hea
 -- ---- the rules of each record
 
 abbrev pub ofHeader : List ℕ
-ofHeader = 10 ∷ 11 ∷ []
+ofHeader = 10 ∷ 11 ∷ 22 ∷ 23 ∷ []
 
 -- the numbers of the first field after A or a C
 abbrev pub ofFirst : List ℕ
@@ -40,7 +40,7 @@ ofRules = ofHeader ++ (ofFirst ++ (ofPayment ++ ofEnd))
 
 execution-numbers : (made : Day) (n : Option ℕ) → NumberedRules (oneOf ofHeader) (executionRules made (executionOf n))
 execution-numbers made none = tt
-execution-numbers made (some n) = (tt, (tt, tt))
+execution-numbers made (some n) = (tt, (tt, (tt, tt)))
 
 pub header-numbers : Numbered (oneOf ofHeader) header
 header-numbers =

@@ -7,7 +7,7 @@ use lib.ListN.{length, take, drop}
 use Rattle.form.specs.Kind.{blanks, numeral}
 use Rattle.form.specs.Reader.{run, judge, number}
 use Rattle.document.specs.Signs.{ascii, zeros}
-use Rattle.document.specs.Calendar.{isDay, monthDays, leapDay, inSpan, dayNumber, yearsDays, monthsDays, ofDDMMYY, ofDDMMYYYY}
+use Rattle.document.specs.Calendar.{isDay, monthDays, leapDay, notTooEarly, notTooLate, dayNumber, yearsDays, monthsDays, ofDDMMYY, ofDDMMYYYY}
 use Rattle.diskette.specs.Writing.{inTurn, toSectionEnd, toNextPart}
 use Rattle.diskette.specs.Fields.{parts, payments, document}
 use Rattle.verdict.specs.Verdicts.{accepting, numberOf}
@@ -25,7 +25,7 @@ pub record Case : Type 0 where
 
 -- the number and the place that the rules give a case; opened, the definition computes
 unfoldable pub given : Case → ℕ × ℕ
-unfolding answer document payments parts run judge number numeral numberOf outcome toSectionEnd toNextPart isDay monthDays leapDay inSpan dayNumber yearsDays monthsDays ofDDMMYY ofDDMMYYYY
+unfolding answer document payments parts run judge number numeral numberOf outcome toSectionEnd toNextPart isDay monthDays leapDay notTooEarly notTooLate dayNumber yearsDays monthsDays ofDDMMYY ofDDMMYYYY
 given c = let v = outcome (answer (c .file)) .verdict in (v .number, v .place)
 
 -- ---- case M: 512 bytes
@@ -114,7 +114,9 @@ guards =
     ∷ record { file = put 50 "311104" fileM; number = 10; place = 50 }
     ∷ record { file = put 50 "311279" (put 95 "15012080" fileM); number = 0; place = 0 }
     ∷ record { file = put 95 "30032004" fileM; number = 0; place = 0 }
-    ∷ record { file = put 95 "31032004" fileM; number = 10; place = 95 }
+    ∷ record { file = put 95 "31032004" fileM; number = 23; place = 95 }
+    ∷ record { file = put 95 "14032004" fileM; number = 22; place = 95 }
+    ∷ record { file = put 95 "15030000" fileM; number = 10; place = 95 }
     ∷ record { file = put 128 "0186" fileM; number = 5; place = 128 }
     ∷ record { file = put 141 "9" fileM; number = 11; place = 141 }
     ∷ record { file = put 159 "1" fileM; number = 11; place = 159 }

@@ -8,7 +8,7 @@ use lib.Dec.{leb, ltb, eqb}
 use Rattle.form.specs.Kind.{Kind, fixed, digits, maybe, text, choice, Value, blanks}
 use Rattle.form.specs.Form.{Rule, rule, Form, ret, get, any, fork, _>>=_, _>>_}
 use Rattle.document.specs.Signs.{ascii, zeros, sign, notAllBlank}
-use Rattle.document.specs.Calendar.{Day, isDay, inSpan, ofDDMMYY, ofDDMMYYYY}
+use Rattle.document.specs.Calendar.{Day, isDay, notTooEarly, notTooLate, DateCase, in-order, no-such-day, too-early, too-late, ofDDMMYY, ofDDMMYYYY}
 use Rattle.document.specs.Values.{Header, Part, Payment, Document, Totals, noTotals, adding}
 use Rattle.document.specs.Rules.{mostPayments, mostCents, sumLimit, fileKinds, sendingBankOk, bankCodeOk, customerOk, notZero, keyOk, supplementOk}
 use Rattle.document.specs.Marks.{roomAfter, markOk}
@@ -37,8 +37,15 @@ text27 = text sign 27
 abbrev pub rulesA5 : List ℕ → ℕ → List Rule
 rulesA5 kind v = rule 11 (sendingBankOk kind v) ∷ []
 
+-- the number of each thing that a date can be
+abbrev pub dateNumber : DateCase → ℕ
+dateNumber in-order = 0
+dateNumber no-such-day = 10
+dateNumber too-early = 22
+dateNumber too-late = 23
+
 abbrev pub rulesA7 : ℕ → List Rule
-rulesA7 n = rule 10 (isDay (ofDDMMYY n)) ∷ []
+rulesA7 n = rule (dateNumber no-such-day) (isDay (ofDDMMYY n)) ∷ []
 
 -- A11b as read: no date, or a day
 abbrev pub executionOf : Option ℕ → Option Day
@@ -47,7 +54,11 @@ executionOf (some n) = some (ofDDMMYYYY n)
 
 abbrev pub executionRules : Day → Option Day → List Rule
 executionRules made none = []
-executionRules made (some d) = rule 10 (isDay d) ∷ rule 10 (inSpan made d) ∷ []
+executionRules made (some d) =
+    rule (dateNumber no-such-day) (isDay d)
+    ∷ rule (dateNumber too-early) (notTooEarly made d)
+    ∷ rule (dateNumber too-late) (notTooLate made d)
+    ∷ []
 
 abbrev pub rulesA11b : Day → Option ℕ → List Rule
 rulesA11b made n = executionRules made (executionOf n)

@@ -14,7 +14,7 @@ use mathlib.Core.Bool.{Bool, true, false, _&&_, _||_, not, cond}
 use lib.Dec.{T, leb, ltb, eqb, leb→le, le→leb}
 use borrow.Author.Tests.{ltb-true, ltb-false, eqb-true, eqb-false}
 use Rattle.form.proofs.BoolLaws.{and-both, and-of}
-use Rattle.document.specs.Calendar.{Day, leap, leapDay, thirtyDays, monthDays, isDay, tomorrow, daysAfter, yearsDays, monthsDays, dayNumber, spanDays, OnOrSoonAfter, inSpan}
+use Rattle.document.specs.Calendar.{Day, leap, leapDay, thirtyDays, monthDays, isDay, tomorrow, daysAfter, yearsDays, monthsDays, dayNumber, spanDays, OnOrSoonAfter, notTooEarly, notTooLate, inSpan}
 
 -- ---- what a day is
 
@@ -177,10 +177,10 @@ module _ (d : Day) (h : IsDay d) where
   unfolding dayNumber
   number-from = omega (arith, h .day-from)
 
-later-year : (d e : Day) → IsDay d → IsDay e → d .year < e .year → dayNumber d < dayNumber e
+pub later-year : (d e : Day) → IsDay d → IsDay e → d .year < e .year → dayNumber d < dayNumber e
 later-year d e h i l = omega (arith, number-to d h, number-from e i, years-more (d .year) (e .year - 1) (omega arith))
 
-later-month : (d e : Day) → IsDay d → IsDay e → d .year ≡ e .year → d .month < e .month → dayNumber d < dayNumber e
+pub later-month : (d e : Day) → IsDay d → IsDay e → d .year ≡ e .year → d .month < e .month → dayNumber d < dayNumber e
 unfolding dayNumber
 later-month d e h i s l =
     rw (← s) (omega (arith, in-month d h, i .day-from, months-more (d .year) (d .month) (e .month - 1) (omega arith)))
@@ -311,8 +311,14 @@ steps-counted (suc n) d h l =
     let t = tomorrow-next (daysAfter n d) i.0 (omega (arith, i.1)) in
     (t .is, omega (arith, t .number, i.1))
 
-number-most : (d : Day) → IsDay d → dayNumber d ≤ dayNumber lastDay
+pub number-most : (d : Day) → IsDay d → dayNumber d ≤ dayNumber lastDay
 number-most d h = omega (arith, last-number, number-to d h, years-more (d .year) 9999 (h .year-to))
+
+-- a day is so many steps behind another as its number is higher
+pub steps-from : (n : ℕ) (d e : Day) → IsDay d → IsDay e → dayNumber e ≡ dayNumber d + n → e ≡ daysAfter n d
+steps-from n d e h i l =
+    let s = steps-counted n d h (omega (arith, number-most e i)) in
+    number-one e (daysAfter n d) i s.0 (omega (arith, s.1))
 
 abbrev pub firstDay : Day
 firstDay = record { day = 1; month = 1; year = 1 }
@@ -330,24 +336,25 @@ first-number = refl
 pub every-day-stepped : (d : Day) → T (isDay d) → d ≡ daysAfter (dayNumber d - 1) firstDay
 every-day-stepped d t =
     let h = see-day d t in
-    let some : 1 ≤ dayNumber d = omega (arith, number-from d h) in
-    let s = steps-counted (dayNumber d - 1) firstDay first-day (omega (arith, first-number, number-most d h)) in
-    number-one d (daysAfter (dayNumber d - 1) firstDay) h s.0 (omega (arith, s.1, first-number))
+    steps-from (dayNumber d - 1) firstDay d first-day h (omega (arith, first-number, number-from d h))
 
 pub every-step-a-day : (n : ℕ) → n < dayNumber lastDay → T (isDay (daysAfter n firstDay))
 every-step-a-day n h = show-day (daysAfter n firstDay) (steps-counted n firstDay first-day (omega (arith, first-number)) .0)
 
 -- ---- the span
 
+-- the span of a day before the year 9999 lies within the calendar
+pub span-inside : (d : Day) (n : ℕ) → IsDay d → d .year < 9999 → n ≤ spanDays → dayNumber d + n ≤ dayNumber lastDay
+span-inside d n h y l = omega (arith, last-number, number-to d h, years-more (d .year) 9998 (omega arith), years-step 9998)
+
 -- counted or stepped through, the span is the same
 pub span-counted : (d e : Day) → IsDay d → d .year < 9999 → IsDay e → OnOrSoonAfter d e ↔ T (inSpan d e)
-unfolding inSpan
+unfolding notTooEarly notTooLate
 span-counted d e h y i = (counted, stepped)
   where
     counted : OnOrSoonAfter d e → T (leb (dayNumber d) (dayNumber e) && leb (dayNumber e) (dayNumber d + spanDays))
     counted s =
-        let top : dayNumber d + s.0 ≤ dayNumber lastDay = omega (arith, s.1, last-number, number-to d h, years-more (d .year) 9998 (omega arith), years-step 9998) in
-        let c = steps-counted s.0 d h top .1 in
+        let c = steps-counted s.0 d h (span-inside d s.0 h y s.1) .1 in
         let same : dayNumber e ≡ dayNumber d + s.0 = ap dayNumber s.2 ∙ c in
         and-of (leb (dayNumber d) (dayNumber e)) (leb (dayNumber e) (dayNumber d + spanDays)) (le→leb (dayNumber d) (dayNumber e) (omega arith))
         (le→leb (dayNumber e) (dayNumber d + spanDays) (omega (arith, s.1)))
@@ -358,5 +365,4 @@ span-counted d e h y i = (counted, stepped)
         let from = leb→le (dayNumber d) (dayNumber e) b.0 in
         let to = leb→le (dayNumber e) (dayNumber d + spanDays) b.1 in
         let n : ℕ = dayNumber e - dayNumber d in
-        let s = steps-counted n d h (omega (arith, number-most e i)) in
-        (n, omega arith, number-one e (daysAfter n d) i s.0 (omega (arith, s.1)))
+        (n, omega arith, steps-from n d e h i (omega arith))

@@ -1,4 +1,5 @@
 pub mod CalendarLaws
+pub mod DateCaseLaws
 pub mod DateLaws
 pub mod MarkLaws
 pub mod FieldLaws

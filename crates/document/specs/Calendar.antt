@@ -1,8 +1,9 @@
--- Days of the Gregorian calendar, years 0001 to 9999: which days there are, the day after a day, and the days counted from the first.
+-- Days of the Gregorian calendar, years 0001 to 9999: which days there are, the day after a day, the days counted from the first, and what a date
+-- of a file can be.
 use Prim.Native.Nat.{ℕ, zero, suc, _+_, _-_, _*_, _/_, _%_, _≤_}
 use mathlib.Core.Path.{_≡_}
-use mathlib.Core.Bool.{Bool, not, _&&_, _||_, cond}
-use lib.Dec.{leb, ltb, eqb}
+use mathlib.Core.Bool.{Bool, false, not, _&&_, _||_, cond}
+use lib.Dec.{T, leb, ltb, eqb}
 
 pub record Day : Type 0 where
   pub day : ℕ
@@ -64,9 +65,46 @@ spanDays = 15
 abbrev pub OnOrSoonAfter : Day → Day → Type 0
 OnOrSoonAfter d e = (n : ℕ) × (n ≤ spanDays) × (e ≡ daysAfter n d)
 
--- the number of the second day is that of the first, or up to `spanDays` more
-unfoldable pub inSpan : Day → Day → Bool
-inSpan d e = leb (dayNumber d) (dayNumber e) && leb (dayNumber e) (dayNumber d + spanDays)
+-- the order of days: by the year, in one year by the month, in one month by the day
+abbrev pub before : Day → Day → Bool
+before d e =
+    ltb (d .year) (e .year)
+    || (eqb (d .year) (e .year) && (ltb (d .month) (e .month) || (eqb (d .month) (e .month) && ltb (d .day) (e .day))))
+
+-- the second day lies before the first
+abbrev pub TooEarly : Day → Day → Type 0
+TooEarly made d = T (before d made)
+
+-- the second day lies behind the last day of the span, to which `spanDays` steps lead from the first
+abbrev pub TooLate : Day → Day → Type 0
+TooLate made d = T (before (daysAfter spanDays made) d)
+
+-- counted: the number of the second day is no less than that of the first
+unfoldable pub notTooEarly : Day → Day → Bool
+notTooEarly made d = leb (dayNumber made) (dayNumber d)
+
+-- counted: the number of the second day is at most `spanDays` more than that of the first
+unfoldable pub notTooLate : Day → Day → Bool
+notTooLate made d = leb (dayNumber d) (dayNumber made + spanDays)
+
+abbrev pub inSpan : Day → Day → Bool
+inSpan made d = notTooEarly made d && notTooLate made d
+
+-- ---- what a date can be
+
+pub data DateCase : Type 0 where
+  in-order no-such-day too-early too-late : DateCase
+
+-- when a date of execution is which, where the file was made on the day `made`
+abbrev pub IsCase : Day → Day → DateCase → Type 0
+IsCase made d in-order = T (isDay d) × OnOrSoonAfter made d
+IsCase made d no-such-day = isDay d ≡ false
+IsCase made d too-early = T (isDay d) × TooEarly made d
+IsCase made d too-late = T (isDay d) × TooLate made d
+
+-- which it is, counted
+unfoldable pub dateCase : Day → Day → DateCase
+dateCase made d = cond (isDay d) (cond (notTooEarly made d) (cond (notTooLate made d) in-order too-late) too-early) no-such-day
 
 -- ---- DDMMYY and DDMMYYYY as numbers
 

@@ -1,11 +1,11 @@
--- Worked values on both sides of each line that a definition draws: one list, one claim.
+-- Worked values on both sides of each line that a definition draws: one list of what is so or not, one of what a date is, each with one claim.
 use Prim.Native.Nat.{ℕ}
 use mathlib.Core.Path.{_≡_, refl}
 use mathlib.Core.Bool.{Bool, true, false}
 use mathlib.Core.List.{List, [], _∷_, map}
 use Rattle.form.specs.Kind.{every, one, among}
 use Rattle.document.specs.Signs.{ascii, sign, notAllBlank}
-use Rattle.document.specs.Calendar.{Day, leapDay, monthDays, isDay, yearsDays, monthsDays, dayNumber, inSpan, ofDDMMYY}
+use Rattle.document.specs.Calendar.{Day, leapDay, monthDays, isDay, yearsDays, monthsDays, dayNumber, notTooEarly, notTooLate, DateCase, in-order, no-such-day, too-early, too-late, dateCase, ofDDMMYY}
 use Rattle.document.specs.Rules.{fileKinds, sendingBankOk, bankCodeOk, customerOk, notZero, keyOk, supplementOk}
 
 -- what a definition says of a value, and what it is to say
@@ -23,7 +23,7 @@ abbrev on : ℕ → ℕ → ℕ → Day
 on d m y = record { day = d; month = m; year = y }
 
 unfoldable pub examples : List Example
-unfolding leapDay monthDays isDay yearsDays monthsDays dayNumber inSpan ofDDMMYY
+unfolding leapDay monthDays isDay
 examples =
     -- signs: each special sign and umlaut, the bytes beside them
     yes (every sign (ascii ".,&-/+*$%[\\]~ 09AZ"))
@@ -59,21 +59,55 @@ examples =
     ∷ no (one (supplementOk 56) (1 ∷ 888 ∷ []))
     ∷ yes (every (supplementOk 54) (0 ∷ 1 ∷ 5 ∷ 51 ∷ 888 ∷ 999 ∷ []))
     ∷ no (supplementOk 55 0)
-    -- days: of November, of a century's end, of the year 0, of the last year; the century's pivot; the span
+    -- days: of November, of a century's end, of the year 0, of the last year
     ∷ yes (isDay (on 30 11 2004))
     ∷ no (isDay (on 31 11 2004))
     ∷ yes (isDay (on 29 2 2000))
     ∷ no (isDay (on 29 2 1900))
     ∷ no (isDay (on 1 1 0))
     ∷ yes (isDay (on 31 12 9999))
-    ∷ yes (inSpan (ofDDMMYY 311279) (on 15 1 2080))
-    ∷ yes (inSpan (ofDDMMYY 10180) (on 16 1 1980))
-    ∷ yes (inSpan (on 15 3 2004) (on 15 3 2004))
-    ∷ yes (inSpan (on 15 3 2004) (on 30 3 2004))
-    ∷ no (inSpan (on 15 3 2004) (on 31 3 2004))
-    ∷ no (inSpan (on 15 3 2004) (on 14 3 2004))
     ∷ []
 
 pub examples-hold : map (λ (e : Example). e .says) examples ≡ map (λ (e : Example). e .wanted) examples
 unfolding examples
 examples-hold = refl
+
+-- ---- what a date is
+
+-- a day of creation, a day of execution, and what the second is to be
+pub record Dated : Type 0 where
+  pub made : Day
+  pub execution : Day
+  pub wanted : DateCase
+
+abbrev dated : Day → Day → DateCase → Dated
+dated made execution wanted = record { made = made; execution = execution; wanted = wanted }
+
+unfoldable pub dateExamples : List Dated
+unfolding ofDDMMYY
+dateExamples =
+    -- the day before, the day itself, 15 and 16 days after it
+    dated (on 15 3 2004) (on 14 3 2004) too-early
+    ∷ dated (on 15 3 2004) (on 15 3 2004) in-order
+    ∷ dated (on 15 3 2004) (on 30 3 2004) in-order
+    ∷ dated (on 15 3 2004) (on 31 3 2004) too-late
+    -- 29 February of a leap year, and of years that end a century
+    ∷ dated (on 15 3 2004) (on 29 2 2000) too-early
+    ∷ dated (on 15 3 2004) (on 29 2 1900) no-such-day
+    ∷ dated (on 15 3 2004) (on 29 2 2100) no-such-day
+    ∷ dated (on 28 2 2000) (on 29 2 2000) in-order
+    -- the year 0, which has no day, and the first and the last year
+    ∷ dated (on 15 3 2004) (on 15 3 0) no-such-day
+    ∷ dated (on 15 3 2004) (on 1 1 1) too-early
+    ∷ dated (on 15 3 2004) (on 31 12 9999) too-late
+    -- across a year's end and the century's pivot
+    ∷ dated (ofDDMMYY 311299) (on 1 1 2000) in-order
+    ∷ dated (ofDDMMYY 311279) (on 15 1 2080) in-order
+    ∷ dated (ofDDMMYY 311279) (on 16 1 2080) too-late
+    ∷ dated (ofDDMMYY 10180) (on 16 1 1980) in-order
+    ∷ dated (ofDDMMYY 10180) (on 1 1 2080) too-late
+    ∷ []
+
+pub date-examples-hold : map (λ (x : Dated). dateCase (x .made) (x .execution)) dateExamples ≡ map (λ (x : Dated). x .wanted) dateExamples
+unfolding dateExamples leapDay monthDays isDay yearsDays monthsDays dayNumber notTooEarly notTooLate dateCase
+date-examples-hold = refl

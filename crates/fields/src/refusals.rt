@@ -27,7 +27,7 @@ pub const BANK_CODES_OVER: u8 = 8;
 // C12 takes the sum of cents above 13 digits, or no further C may begin because the sum is at its top.
 pub const CENTS_OVER: u8 = 9;
 
-// A7 or A11b is no date, or A11b is outside its span.
+// A7 or A11b names no day.
 pub const NO_DATE: u8 = 10;
 
 // Another named condition of a field does not hold.
@@ -59,3 +59,9 @@ pub const NO_SUCH: u8 = 19;
 
 // C7b is no supplement of its key.
 pub const NO_SUPPLEMENT: u8 = 21;
+
+// A11b lies before the day of creation.
+pub const TOO_EARLY: u8 = 22;
+
+// A11b lies more than 15 days after the day of creation.
+pub const TOO_LATE: u8 = 23;

@@ -6,11 +6,11 @@ use mathlib.Core.List.{List, [], _∷_, _++_}
 
 -- a file
 abbrev pub ofFile : List ℕ
-ofFile = 1 ∷ 2 ∷ 3 ∷ 4 ∷ 5 ∷ 6 ∷ 7 ∷ 8 ∷ 9 ∷ 10 ∷ 11 ∷ 12 ∷ 13 ∷ 14 ∷ 15 ∷ 21 ∷ []
+ofFile = 1 ∷ 2 ∷ 3 ∷ 4 ∷ 5 ∷ 6 ∷ 7 ∷ 8 ∷ 9 ∷ 10 ∷ 11 ∷ 12 ∷ 13 ∷ 14 ∷ 15 ∷ 21 ∷ 22 ∷ 23 ∷ []
 
 -- a listing: its records are whole, C1 is made, and there is no E; but a line has a form, and lines can be missing
 abbrev pub ofListing : List ℕ
-ofListing = 2 ∷ 3 ∷ 4 ∷ 6 ∷ 7 ∷ 8 ∷ 9 ∷ 10 ∷ 11 ∷ 12 ∷ 13 ∷ 17 ∷ 18 ∷ 21 ∷ []
+ofListing = 2 ∷ 3 ∷ 4 ∷ 6 ∷ 7 ∷ 8 ∷ 9 ∷ 10 ∷ 11 ∷ 12 ∷ 13 ∷ 17 ∷ 18 ∷ 21 ∷ 22 ∷ 23 ∷ []
 
 -- ---- what a call gives
 

@@ -5,6 +5,8 @@ use crate::refusal::verdict;
 use crate::samples::{self, changed, m, Sample, MARKS};
 use crate::totals::Totals;
 
+mod dates;
+
 /// Where the fields of M begin, and its end.
 const PLACES_IN_M: [usize; 48] = [
     0, 4, 5, 7, 15, 23, 50, 56, 60, 70, 80, 95, 103, 127, // A1 to A12
@@ -177,36 +179,6 @@ fn closing_blanks_are_one_field() {
     assert_eq!(verdict_on(&m()[..350]), (1, 344));
     let file = samples::file(&[samples::payment(1, &samples::parts(3))]);
     assert_eq!(verdict_on(&changed(file, 383, b"X")), (2, 373));
-}
-
-#[test]
-fn dates_on_both_sides() {
-    assert_eq!(m_with(95, b"30032004"), (0, 0));
-    assert_eq!(m_with(95, b"15032004"), (0, 0));
-    assert_eq!(m_with(95, b"31032004"), (10, 95));
-    assert_eq!(m_with(95, b"14032004"), (10, 95));
-    assert_eq!(m_with(50, b"290203"), (10, 50));
-    for date in [b"00000000", b"15030000", b"29021900", b"32032004"] {
-        assert_eq!(m_with(95, date), (10, 95));
-    }
-    assert_eq!(m_with(95, b"1503200 "), (3, 95));
-}
-
-#[test]
-fn dates_across_years() {
-    let cases = [
-        ("311299", "01012000", (0, 0)),
-        ("311279", "15012080", (0, 0)),
-        ("311279", "16012080", (10, 95)),
-        ("010180", "01011980", (0, 0)),
-        ("010180", "01012080", (10, 95)),
-        ("280204", "29022004", (0, 0)),
-    ];
-    for (created, executed, expected) in cases {
-        let file = changed(m(), 50, created.as_bytes());
-        let file = changed(file, 95, executed.as_bytes());
-        assert_eq!(verdict_on(&file), expected);
-    }
 }
 
 #[test]

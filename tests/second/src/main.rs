@@ -3,6 +3,7 @@
 mod calendar;
 mod check;
 mod compose;
+mod dates;
 mod head;
 mod input;
 mod layout;

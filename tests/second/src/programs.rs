@@ -78,6 +78,10 @@ mod tests {
         assert_eq!(printed(list, &mistyped), b"21\t174\n");
         let mistyped = m_listing().replace("\t000\t", "\t051\t");
         assert_eq!(printed(compose, mistyped.as_bytes()), b"21\t113\n");
+        let early = samples::changed(m(), 95, b"14032004");
+        assert_eq!(printed(list, &early), b"22\t95\n");
+        let late = m_listing().replacen("\t\n", "\t31032004\n", 1);
+        assert_eq!(printed(compose, late.as_bytes()), b"23\t64\n");
     }
 
     #[test]

@@ -25,6 +25,8 @@ pub enum Number {
     NotThere = 19,
     InputTooLong = 20,
     NoSupplement = 21,
+    TooEarly = 22,
+    TooLate = 23,
 }
 
 impl Number {
@@ -76,10 +78,13 @@ mod tests {
     fn numbers_are_those_of_the_requirements() {
         assert_eq!(Number::NotWhole.at(7).code(), 1);
         assert_eq!(Number::CentsFull.at(7).code(), 9);
+        assert_eq!(Number::NoDate.at(7).code(), 10);
         assert_eq!(Number::LineMissing.at(7).code(), 18);
         assert_eq!(Number::NotThere.at(7).code(), 19);
         assert_eq!(Number::InputTooLong.at(7).code(), 20);
         assert_eq!(Number::NoSupplement.at(7).code(), 21);
+        assert_eq!(Number::TooEarly.at(7).code(), 22);
+        assert_eq!(Number::TooLate.at(7).code(), 23);
         assert_eq!(Number::NoKey.at(7).place, 7);
     }
 

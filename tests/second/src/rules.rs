@@ -1,14 +1,11 @@
 //! The conditions of every field, in the light of what has been read before it.
 
-use crate::calendar;
+use crate::dates;
 use crate::layout::{Content, Counted, Meaning};
 use crate::marks::Marks;
 use crate::refusal::{demand, Number};
 use crate::signs::{all_are, is_text_sign, number, BLANK};
 use crate::totals::Totals;
-
-/// Calendar days from the creation of a file within which it may be executed.
-const LONGEST_DELAY: u64 = 15;
 
 /// The three numbers of a payment that are summed up.
 #[derive(Clone, Copy, Debug, Default, PartialEq, Eq)]
@@ -73,7 +70,7 @@ impl Ledger {
                 self.meaning(meaning, bytes, value)
             }
             Content::ExecutionDate if all_are(bytes, BLANK) => Ok(()),
-            Content::ExecutionDate => self.execution_date(digits(bytes)?),
+            Content::ExecutionDate => Ok(dates::execution(digits(bytes)?, self.created)?),
             Content::Text => text(bytes),
             Content::Name => {
                 text(bytes)?;
@@ -102,7 +99,7 @@ impl Ledger {
             Meaning::Free => Ok(()),
             Meaning::SendingBank => demand(self.from_bank || value == 0, Number::Condition),
             Meaning::CreationDate => {
-                self.created = calendar::short_date(value).ok_or(Number::NoDate)?;
+                self.created = dates::creation(value)?;
                 Ok(())
             }
             Meaning::CountedBankCode => {
@@ -133,12 +130,6 @@ impl Ledger {
             }
             Meaning::Mark => demand(self.marks.take(value), Number::NoMark),
         }
-    }
-
-    fn execution_date(&self, value: u64) -> Result<(), Number> {
-        let day = calendar::long_date(value).ok_or(Number::NoDate)?;
-        let span = self.created..=self.created + LONGEST_DELAY;
-        demand(span.contains(&day), Number::NoDate)
     }
 
     /// Whether the key belongs to this kind of file.
@@ -306,17 +297,22 @@ mod tests {
     }
 
     #[test]
-    fn an_execution_date_is_absent_or_whole() {
+    fn an_execution_date_is_absent_or_a_day_in_its_span() {
         let mut ledger = Ledger::default();
         let created = Digits(Meaning::CreationDate);
         assert_eq!(ledger.take(created, b"150304"), Ok(()));
-        assert_eq!(ledger.take(ExecutionDate, b"        "), Ok(()));
-        assert_eq!(ledger.take(ExecutionDate, b"15032004"), Ok(()));
-        assert_eq!(
-            ledger.take(ExecutionDate, b"1503 004"),
-            Err(Number::NoDigit)
-        );
-        assert_eq!(ledger.take(ExecutionDate, b"00000000"), Err(Number::NoDate));
+        let cases = [
+            ("        ", Ok(())),
+            ("15032004", Ok(())),
+            ("1503 004", Err(Number::NoDigit)),
+            ("00000000", Err(Number::NoDate)),
+            ("14032004", Err(Number::TooEarly)),
+            ("31032004", Err(Number::TooLate)),
+        ];
+        for (date, expected) in cases {
+            let answer = ledger.take(ExecutionDate, date.as_bytes());
+            assert_eq!(answer, expected, "{date}");
+        }
         assert_eq!(ledger.take(created, b"290203"), Err(Number::NoDate));
     }
 

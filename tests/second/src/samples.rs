@@ -1,6 +1,8 @@
-//! Files and listings for the tests: the whole case M and files made like it.
+//! Files, listings and days for the tests: the whole case M, files made like it, the calendar step by step.
 
 use std::io::{self, Read};
+use std::iter;
+use std::ops::RangeInclusive;
 
 /// The A line of M.
 pub const A_LINE: &str =
@@ -100,6 +102,42 @@ pub fn parts(number: usize) -> Vec<Part<'static>> {
 pub fn changed(mut bytes: Vec<u8>, place: usize, over: &[u8]) -> Vec<u8> {
     bytes[place..place + over.len()].copy_from_slice(over);
     bytes
+}
+
+/// Every day of these years, written DDMMYYYY, with the steps it lies behind the day of creation; none before it.
+pub fn days_around(
+    created: u64,
+    years: RangeInclusive<u64>,
+) -> impl Iterator<Item = (u64, Option<u64>)> {
+    let mut steps = None;
+    days_of(years).map(move |day| {
+        steps = steps
+            .map(|before| before + 1)
+            .or((day == created).then_some(0));
+        (day, steps)
+    })
+}
+
+/// Every day of these years, written DDMMYYYY, one after the other.
+pub fn days_of(years: RangeInclusive<u64>) -> impl Iterator<Item = u64> {
+    let first = (1, 1, *years.start());
+    iter::successors(Some(first), |&day| Some(next_day(day)))
+        .take_while(move |(_, _, year)| year <= years.end())
+        .map(|(day, month, year)| day * 1_000_000 + month * 10_000 + year)
+}
+
+/// The day after a day, month and year. The program numbers its days; the tests step, so as not to repeat its error.
+fn next_day((day, month, year): (u64, u64, u64)) -> (u64, u64, u64) {
+    let is_century = year.is_multiple_of(100);
+    let is_leap = year.is_multiple_of(if is_century { 400 } else { 4 });
+    match (day, month) {
+        (28, 2) if is_leap => (29, 2, year),
+        (28 | 29, 2) => (1, 3, year),
+        (30, 4 | 6 | 9 | 11) => (1, month + 1, year),
+        (31, 12) => (1, 1, year + 1),
+        (31, _) => (1, month + 1, year),
+        _ => (day + 1, month, year),
+    }
 }
 
 /// An input that comes in short pieces.

@@ -75,22 +75,44 @@ fn outputs_come_back_whole() {
     assert_eq!(answers(&refused), "18\t0\t0\n\n");
 }
 
+/// Every call over the file refuses it so and leaves what it was lent.
+fn all_refuse(file: &[u8], refusal: &str) {
+    let checked = request('C', [0; 4], file, b"");
+    assert_eq!(answers(&checked), format!("{refusal}\t0\t0\t0\t0\n"));
+    let loaded = request('L', [1, 0, 0, 0], file, b"00000000000000009");
+    let expected = format!("{refusal}\t0\t0\t0\t0\n9 \n\n\n\n");
+    assert_eq!(answers(&loaded), expected);
+    let listed = request('P', [3, 0, 0, 0], file, b"abc");
+    assert_eq!(answers(&listed), format!("{refusal}\t0\nabc\n"));
+    let nothing = format!("{refusal}\t0\t0\n");
+    assert_eq!(viewed('F', [0, 0, 0], file), nothing);
+    assert_eq!(viewed('H', [128, 14, 0], file), nothing);
+    assert_eq!(viewed('V', [0, 14, 0], file), format!("{refusal}\t0\n\n"));
+}
+
+/// Composing refuses the listing so and leaves what it was lent.
+fn composing_refuses(listing: &str, refusal: &str) {
+    let made = request('M', [3, 0, 0, 0], listing.as_bytes(), b"abc");
+    assert_eq!(answers(&made), format!("{refusal}\t0\nabc\n"));
+}
+
 #[test]
 fn a_supplement_that_its_key_lacks_is_21_in_every_call() {
-    let file = samples::changed(m(), 174, b"051");
-    let checked = request('C', [0; 4], &file, b"");
-    assert_eq!(answers(&checked), "21\t174\t0\t0\t0\t0\n");
-    let loaded = request('L', [1, 0, 0, 0], &file, b"00000000000000009");
-    let expected = "21\t174\t0\t0\t0\t0\n9 \n\n\n\n";
-    assert_eq!(answers(&loaded), expected);
-    let listed = request('P', [3, 0, 0, 0], &file, b"abc");
-    assert_eq!(answers(&listed), "21\t174\t0\nabc\n");
-    assert_eq!(viewed('F', [0, 0, 0], &file), "21\t174\t0\t0\n");
-    assert_eq!(viewed('H', [128, 14, 0], &file), "21\t174\t0\t0\n");
-    assert_eq!(viewed('V', [0, 14, 0], &file), "21\t174\t0\n\n");
+    all_refuse(&samples::changed(m(), 174, b"051"), "21\t174");
     let listing = m_listing().replace("\t000\t", "\t051\t");
-    let made = request('M', [3, 0, 0, 0], listing.as_bytes(), b"abc");
-    assert_eq!(answers(&made), "21\t113\t0\nabc\n");
+    composing_refuses(&listing, "21\t113");
+}
+
+#[test]
+fn every_call_tells_what_is_wrong_with_a_date() {
+    for (date, number) in [("29022003", 10), ("14032004", 22), ("31032004", 23)] {
+        let file = samples::changed(m(), 95, date.as_bytes());
+        all_refuse(&file, &format!("{number}\t95"));
+        let listing = m_listing().replacen("\t\n", &format!("\t{date}\n"), 1);
+        composing_refuses(&listing, &format!("{number}\t64"));
+    }
+    all_refuse(&samples::changed(m(), 50, b"290203"), "10\t50");
+    composing_refuses(&m_listing().replace("150304", "290203"), "10\t35");
 }
 
 /// The answer to a call of the view: `numbers` are a payment or a start, a field and a part.
