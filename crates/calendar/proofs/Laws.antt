@@ -6,7 +6,9 @@ use mathlib.Core.Bool.{true, false}
 use borrow.Author.Tests.{le-leb, lt-leb}
 use Rattle.document.specs.Calendar.{Day, isDay, yearsDays, monthsDays, dayNumber, spanDays, notTooEarly, notTooLate, DateCase, in-order, no-such-day, too-early, too-late, dateCase}
 use Rattle.document.proofs.CalendarLaws.{month-most}
-use Rattle.calendar.specs.Days.{caseOf, caseFrom}
+use Rattle.calendar.specs.declared.DateCase as calendar
+use Rattle.calendar.specs.declared.DateCase.the-variants.{InOrder, NoSuchDay, TooEarly, TooLate}
+use Rattle.calendar.specs.Days.{caseFrom}
 
 pub years-most : (y : ℕ) → yearsDays y ≤ 366 * y
 unfolding yearsDays
@@ -40,7 +42,14 @@ module _ (made d : Day) where
   unfolding dateCase notTooEarly notTooLate
   case-in-order e from to = rw (e, le-leb (dayNumber made) (dayNumber d) from, le-leb (dayNumber d) (dayNumber made + spanDays) to)
 
--- a case of the rules is that of the code's case for it
+-- the case of the rules that a case of the code is
+abbrev pub caseOf : calendar.DateCase → DateCase
+caseOf InOrder = in-order
+caseOf NoSuchDay = no-such-day
+caseOf TooEarly = too-early
+caseOf TooLate = too-late
+
+-- there and back
 pub case-back : (c : DateCase) → caseOf (caseFrom c) ≡ c
 case-back in-order = refl
 case-back no-such-day = refl

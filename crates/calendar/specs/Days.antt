@@ -1,4 +1,4 @@
--- Days of the code and days of the rules, and what a date can be in both.
+-- Days of the code and days of the rules, and the code's cases of a date.
 use Rattle.document.specs.Calendar.{in-order, no-such-day, too-early, too-late}
 use Rattle.document.specs.Calendar as document
 use Rattle.calendar.specs.declared.Day.{Day}
@@ -12,13 +12,6 @@ dayOf d = record { day = d .day; month = d .month; year = d .year }
 -- the day of the code that a day of the rules is
 abbrev pub dayFrom : document.Day → Day
 dayFrom d = record { day = d .day; month = d .month; year = d .year }
-
--- the case of the rules that a case of the code is
-abbrev pub caseOf : DateCase → document.DateCase
-caseOf InOrder = in-order
-caseOf NoSuchDay = no-such-day
-caseOf TooEarly = too-early
-caseOf TooLate = too-late
 
 -- the case of the code that a case of the rules is
 abbrev pub caseFrom : document.DateCase → DateCase

@@ -37,7 +37,7 @@ text27 = text sign 27
 abbrev pub rulesA5 : List ℕ → ℕ → List Rule
 rulesA5 kind v = rule 11 (sendingBankOk kind v) ∷ []
 
--- the number of each thing that a date can be
+-- the number of each case of a date
 abbrev pub dateNumber : DateCase → ℕ
 dateNumber in-order = 0
 dateNumber no-such-day = 10

@@ -16,8 +16,8 @@ use Rattle.diskette.specs.Fields.{rulesA11b}
 use Rattle.diskette.proofs.DateRules.{judged, date-judged}
 use Rattle.calendar.specs.declared.DateCase.{DateCase}
 use Rattle.calendar.specs.declared.DateCase.the-variants.{InOrder, NoSuchDay, TooEarly, TooLate}
-use Rattle.calendar.specs.Days.{dayOf, dayFrom, caseOf}
-use Rattle.calendar.proofs.Laws.{case-back}
+use Rattle.calendar.specs.Days.{dayOf, dayFrom}
+use Rattle.calendar.proofs.Laws.{caseOf, case-back}
 use Rattle.fields.specs.Answers.{refusalOf, ofField}
 use Rattle.fields.proofs.LeafLaws.{field-broken, field-fails, field-holds}
 use Rattle.dates.specs.Dates.{executions}
