@@ -1,21 +1,41 @@
 -- What a date of execution can be: counted, it is in one of the four cases exactly when it is so in the order of days and by steps from day to day.
--- The order of days is that of their numbers (`before-counted`, by the first of year, month and day that differs). So too early and too late are
--- comparisons of numbers (`early-counted`, `late-counted`), which with `span-counted` gives each of the four cases. In steps: a day is so many
--- steps behind another as its number is higher (`steps-counted`); no step leads from behind the last day back to a day (`steps-behind`), so that
--- however many steps are spoken of, they are counted by numbers (`steps-to-day`).
-use Prim.Native.Nat.{ℕ, zero, suc, _+_, _-_, _<_}
+-- By the numbers of the two days it is told at once which case it is (`case-early` and its fellows). The order of days is that of their numbers
+-- (`before-counted`, by the first of year, month and day that differs). So too early and too late are comparisons of numbers (`early-counted`,
+-- `late-counted`), which with `span-counted` gives each of the four cases. In steps: a day is so many steps behind another as its number is
+-- higher (`steps-counted`); no step leads from behind the last day back to a day (`steps-behind`), so that however many steps are spoken of, they
+-- are counted by numbers (`steps-to-day`).
+use Prim.Native.Nat.{ℕ, zero, suc, _+_, _-_, _≤_, _<_}
 use native.Mathlib.Omega.{arith}
 use native.Mathlib.Decide.{decLt}
 use mathlib.Core.Path.{_≡_, refl, sym, ap, subst, _∙_}
 use mathlib.Core.Logic.{_↔_, _⊎_, inl, inr, ⊎-elim}
 use mathlib.Core.Bool.{Bool, true, false, cond}
 use mathlib.Core.Option.{some}
-use lib.Dec.{T, ltb}
+use lib.Dec.{T, ltb, leb→le}
 use borrow.Author.Tests.{ltb-true, leb-false, lt-ltb, le-ltb, le-leb, lt-leb, eq-eqb, ne-eqb}
 use Rattle.form.proofs.BoolLaws.{is-true, T-of, and-both, and-of}
 use Rattle.document.specs.Calendar.{Day, isDay, monthDays, tomorrow, daysAfter, dayNumber, spanDays, OnOrSoonAfter, before, TooEarly, TooLate, notTooEarly, notTooLate, DateCase, in-order, no-such-day, too-early, too-late, IsCase, dateCase}
 use Rattle.document.specs.Rules.{LegalExecution}
 use Rattle.document.proofs.CalendarLaws.{IsDay, see-day, later-year, later-month, number-one, number-most, lastDay, steps-counted, steps-from, span-inside, span-counted}
+
+-- ---- what a date is, by the numbers of the two days
+
+module _ (made d : Day) where
+  pub case-no-day : isDay d ≡ false → dateCase made d ≡ no-such-day
+  unfolding dateCase
+  case-no-day e = rw e
+
+  pub case-early : isDay d ≡ true → dayNumber d < dayNumber made → dateCase made d ≡ too-early
+  unfolding dateCase notTooEarly
+  case-early e l = rw (e, lt-leb (dayNumber made) (dayNumber d) l)
+
+  pub case-late : isDay d ≡ true → dayNumber made ≤ dayNumber d → dayNumber made + spanDays < dayNumber d → dateCase made d ≡ too-late
+  unfolding dateCase notTooEarly notTooLate
+  case-late e from l = rw (e, le-leb (dayNumber made) (dayNumber d) from, lt-leb (dayNumber d) (dayNumber made + spanDays) l)
+
+  pub case-in-order : isDay d ≡ true → dayNumber made ≤ dayNumber d → dayNumber d ≤ dayNumber made + spanDays → dateCase made d ≡ in-order
+  unfolding dateCase notTooEarly notTooLate
+  case-in-order e from to = rw (e, le-leb (dayNumber made) (dayNumber d) from, le-leb (dayNumber d) (dayNumber made + spanDays) to)
 
 -- ---- the order of days is that of their numbers
 
@@ -132,15 +152,15 @@ module _ (made d : Day) (h : IsDay made) (y : made .year < 9999) where
           (t, span-counted made d h y (see-day d t) .1 (and-of (notTooEarly made d) (notTooLate made d) (T-of q) (T-of r)))
 
   only-its-case : (c : DateCase) → IsCase made d c → dateCase made d ≡ c
-  unfolding dateCase
+  unfolding notTooEarly notTooLate
   only-its-case in-order x =
-      let b = and-both (notTooEarly made d) (notTooLate made d) (span-counted made d h y (see-day d (x .0)) .0 (x .1)) in
-      rw (is-true (isDay d) (x .0), is-true (notTooEarly made d) (b .0), is-true (notTooLate made d) (b .1))
-  only-its-case no-such-day x = rw x
-  only-its-case too-early x = rw (is-true (isDay d) (x .0), early-counted made d h y (see-day d (x .0)) .0 (x .1))
+      let b = span-both made d h y (see-day d (x .0)) (x .1) in
+      case-in-order made d (is-true (isDay d) (x .0)) (leb→le (dayNumber made) (dayNumber d) (b .0)) (leb→le (dayNumber d) (dayNumber made + spanDays) (b .1))
+  only-its-case no-such-day x = case-no-day made d x
+  only-its-case too-early x = case-early made d (is-true (isDay d) (x .0)) (before-lower d made (see-day d (x .0)) h .0 (x .1))
   only-its-case too-late x =
-      let i = see-day d (x .0) in
-      rw (is-true (isDay d) (x .0), late-not-early made d h y i (x .1), late-counted made d h y i .0 (x .1))
+      let l = late-higher made d h y (see-day d (x .0)) .0 (x .1) in
+      case-late made d (is-true (isDay d) (x .0)) (omega arith) l
 
 pub date-cases : (made d : Day) → T (isDay made) → made .year < 9999 → (c : DateCase) → (dateCase made d ≡ c) ↔ IsCase made d c
 date-cases made d h y c = (λ e. subst (IsCase made d) e (is-its-case made d (see-day made h) y), only-its-case made d (see-day made h) y c)

@@ -87,6 +87,7 @@ notTooEarly made d = leb (dayNumber made) (dayNumber d)
 unfoldable pub notTooLate : Day → Day → Bool
 notTooLate made d = leb (dayNumber d) (dayNumber made + spanDays)
 
+-- counted: both
 abbrev pub inSpan : Day → Day → Bool
 inSpan made d = notTooEarly made d && notTooLate made d
 

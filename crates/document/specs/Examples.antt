@@ -75,39 +75,39 @@ examples-hold = refl
 -- ---- what a date is
 
 -- a day of creation, a day of execution, and what the second is to be
-pub record Dated : Type 0 where
+pub record DateExample : Type 0 where
   pub made : Day
   pub execution : Day
   pub wanted : DateCase
 
-abbrev dated : Day → Day → DateCase → Dated
-dated made execution wanted = record { made = made; execution = execution; wanted = wanted }
+abbrev executed : Day → Day → DateCase → DateExample
+executed made execution wanted = record { made = made; execution = execution; wanted = wanted }
 
-unfoldable pub dateExamples : List Dated
+unfoldable pub dateExamples : List DateExample
 unfolding ofDDMMYY
 dateExamples =
     -- the day before, the day itself, 15 and 16 days after it
-    dated (on 15 3 2004) (on 14 3 2004) too-early
-    ∷ dated (on 15 3 2004) (on 15 3 2004) in-order
-    ∷ dated (on 15 3 2004) (on 30 3 2004) in-order
-    ∷ dated (on 15 3 2004) (on 31 3 2004) too-late
+    executed (on 15 3 2004) (on 14 3 2004) too-early
+    ∷ executed (on 15 3 2004) (on 15 3 2004) in-order
+    ∷ executed (on 15 3 2004) (on 30 3 2004) in-order
+    ∷ executed (on 15 3 2004) (on 31 3 2004) too-late
     -- 29 February of a leap year, and of years that end a century
-    ∷ dated (on 15 3 2004) (on 29 2 2000) too-early
-    ∷ dated (on 15 3 2004) (on 29 2 1900) no-such-day
-    ∷ dated (on 15 3 2004) (on 29 2 2100) no-such-day
-    ∷ dated (on 28 2 2000) (on 29 2 2000) in-order
+    ∷ executed (on 15 3 2004) (on 29 2 2000) too-early
+    ∷ executed (on 15 3 2004) (on 29 2 1900) no-such-day
+    ∷ executed (on 15 3 2004) (on 29 2 2100) no-such-day
+    ∷ executed (on 28 2 2000) (on 29 2 2000) in-order
     -- the year 0, which has no day, and the first and the last year
-    ∷ dated (on 15 3 2004) (on 15 3 0) no-such-day
-    ∷ dated (on 15 3 2004) (on 1 1 1) too-early
-    ∷ dated (on 15 3 2004) (on 31 12 9999) too-late
+    ∷ executed (on 15 3 2004) (on 15 3 0) no-such-day
+    ∷ executed (on 15 3 2004) (on 1 1 1) too-early
+    ∷ executed (on 15 3 2004) (on 31 12 9999) too-late
     -- across a year's end and the century's pivot
-    ∷ dated (ofDDMMYY 311299) (on 1 1 2000) in-order
-    ∷ dated (ofDDMMYY 311279) (on 15 1 2080) in-order
-    ∷ dated (ofDDMMYY 311279) (on 16 1 2080) too-late
-    ∷ dated (ofDDMMYY 10180) (on 16 1 1980) in-order
-    ∷ dated (ofDDMMYY 10180) (on 1 1 2080) too-late
+    ∷ executed (ofDDMMYY 311299) (on 1 1 2000) in-order
+    ∷ executed (ofDDMMYY 311279) (on 15 1 2080) in-order
+    ∷ executed (ofDDMMYY 311279) (on 16 1 2080) too-late
+    ∷ executed (ofDDMMYY 10180) (on 16 1 1980) in-order
+    ∷ executed (ofDDMMYY 10180) (on 1 1 2080) too-late
     ∷ []
 
-pub date-examples-hold : map (λ (x : Dated). dateCase (x .made) (x .execution)) dateExamples ≡ map (λ (x : Dated). x .wanted) dateExamples
+pub date-examples-hold : map (λ (x : DateExample). dateCase (x .made) (x .execution)) dateExamples ≡ map (λ (x : DateExample). x .wanted) dateExamples
 unfolding dateExamples leapDay monthDays isDay yearsDays monthsDays dayNumber notTooEarly notTooLate dateCase
 date-examples-hold = refl

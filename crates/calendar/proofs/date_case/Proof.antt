@@ -1,5 +1,5 @@
 -- calendar::date_case meets its contract: its three tests are those of the rule, in its order.
--- Each of the four ways out is one law of `Laws`: what a date is, by the numbers of the two days. The code's numbers are those of the rules.
+-- Each of the four ways out is one law of `DateCaseLaws`: what a date is, by the numbers of the two days. The code's numbers are those of the rules.
 -- Assumes nothing.
 use mathlib.Core.Path.{_≡_, sym, ap, _∙_}
 use mathlib.Core.Bool.{true}
@@ -7,8 +7,9 @@ use native.Mathlib.Omega.{arith}
 use borrow.Author.Needs.{needs}
 use borrow.Author.Tests.{not-false, not-true}
 use Rattle.document.specs.Calendar.{isDay}
+use Rattle.document.proofs.DateCaseLaws.{case-no-day, case-early, case-late, case-in-order}
 use Rattle.calendar.specs.Days.{dayOf, caseFrom}
-use Rattle.calendar.proofs.Laws.{number-most, case-no-day, case-early, case-late, case-in-order}
+use Rattle.calendar.proofs.Laws.{number-most}
 use Rattle.calendar.proofs.date_case.Statement.{statement}
 use Rattle.calendar.proofs.date_case.Tie as tie
 

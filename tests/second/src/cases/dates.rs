@@ -32,40 +32,41 @@ fn listing_dated(created: &str, executed: &str) -> (u8, usize) {
     verdict(&compose((line + C_LINE).as_bytes(), &mut [0; 512]))
 }
 
+/// M, executed on any of these days, is given this.
+fn all_are(dates: &[&str], expected: Verdicts) {
+    for date in dates {
+        assert_eq!(dated("150304", date), expected, "{date}");
+    }
+}
+
 #[test]
 fn an_execution_on_no_day_is_10() {
     let dates = [
         "00000000", "15030000", "29021900", "29022100", "29022003", "00032004", "32032004",
         "31042004", "15002004", "15132004", "99999999",
     ];
-    for date in dates {
-        assert_eq!(dated("150304", date), at_a11b(10), "{date}");
-    }
+    all_are(&dates, at_a11b(10));
 }
 
 #[test]
 fn an_execution_before_the_creation_is_22() {
-    for date in [
+    let dates = [
         "14032004", "29022004", "15032003", "31122003", "29022000", "15031904", "01010001",
-    ] {
-        assert_eq!(dated("150304", date), at_a11b(22), "{date}");
-    }
+    ];
+    all_are(&dates, at_a11b(22));
 }
 
 #[test]
 fn an_execution_within_15_days_is_in_order() {
-    for date in ["15032004", "16032004", "29032004", "30032004"] {
-        assert_eq!(dated("150304", date), ACCEPTED, "{date}");
-    }
+    all_are(&["15032004", "16032004", "29032004", "30032004"], ACCEPTED);
 }
 
 #[test]
 fn an_execution_after_15_days_is_23() {
-    for date in [
+    let dates = [
         "31032004", "01042004", "14042004", "14032005", "15032005", "29022008", "31129999",
-    ] {
-        assert_eq!(dated("150304", date), at_a11b(23), "{date}");
-    }
+    ];
+    all_are(&dates, at_a11b(23));
 }
 
 #[test]
