@@ -1,10 +1,12 @@
 // Days in narrow numbers: which days there are, how they are counted, what a date of execution can be, and the days that DDMMYY and DDMMYYYY name.
+#![tactic(auto)]
+
 ghost use Rattle.std.specs.Prelude.{◌≡◌, ◌&&◌, leb, ◌-◌, ◌%◌, ◌^◌};
 ghost use Rattle.document.specs.Calendar.{leap, month_days, is_day, years_days, months_days, day_number, date_case, century, of_ddmmyy, of_ddmmyyyy};
 ghost use Rattle.calendar.specs.Days.{day_of, day_from, case_from};
 
 // A day as the code holds it: narrow numbers, so that counting its days cannot wrap.
-#[derive(Drop)]
+#[derive(Clone, Copy)]
 pub struct Day {
     pub day: u8,
     pub month: u8,
@@ -12,7 +14,7 @@ pub struct Day {
 }
 
 // What a date of execution can be.
-#[derive(Drop)]
+#[derive(Clone, Copy)]
 pub enum DateCase {
     InOrder,
     NoSuchDay,

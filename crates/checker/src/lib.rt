@@ -1,4 +1,6 @@
 // The whole check: one A, its payments, one E and nothing more, in one pass over the file; and one such file wherever it stands.
+#![tactic(auto)]
+
 ghost use Rattle.std.specs.Prelude.{◌≡◌};
 ghost use Rattle.form.specs.Place.{read_at};
 ghost use Rattle.diskette.specs.Fields.{end, document};
@@ -15,7 +17,7 @@ use sums::Sums;
 use verdict::Verdict;
 
 // What a check gives back: the verdict, and what the payments come to; a refused file has no figures.
-#[derive(Drop)]
+#[derive(Clone, Copy)]
 pub struct Checked {
     pub verdict: Verdict,
     pub count: u64,
@@ -23,7 +25,7 @@ pub struct Checked {
 }
 
 // One file from A to E: how many payments, what they come to, and the place behind E.
-#[derive(Drop)]
+#[derive(Clone, Copy)]
 pub enum FileRead {
     Refused(Refusal),
     Is(u64, Sums, usize),

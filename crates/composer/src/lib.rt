@@ -1,4 +1,6 @@
 // Composing: the listing is checked whole, then the room in the output, and only then is a byte written.
+#![tactic(auto)]
+
 ghost use Rattle.std.specs.Prelude.{◌≡◌, ◌+◌, ◌*◌, ◌≤◌, ◌<◌, ◌^◌, length, drop};
 ghost use Rattle.form.specs.Place.{read_at};
 ghost use Rattle.verdict.specs.Lent.{filled};
@@ -33,7 +35,7 @@ const A_AND_E: usize = layout::length::A + layout::length::E;
 const FEWEST_FIELDS: usize = 1 + layout::line::FIELDS_OF_C;
 
 // What is told of a payment's line with the help of its record: it is refused; the sums with the payment, and the payment's bytes in the file.
-#[derive(Drop)]
+#[derive(Clone, Copy)]
 enum LaidPayment {
     Refused(Refusal),
     Is(Sums, usize),
@@ -51,7 +53,7 @@ impl LaidPayment {
 }
 
 // What is told of a line: it has no end; it is refused; the sums with its payment, the payment's bytes in the file, and the place behind.
-#[derive(Drop)]
+#[derive(Clone, Copy)]
 enum LineRead {
     NotEnded,
     Refused(Refusal),
@@ -59,7 +61,7 @@ enum LineRead {
 }
 
 // What the payments of a listing come to, and how many bytes they take in the file.
-#[derive(Drop)]
+#[derive(Clone, Copy)]
 enum LinesRead {
     Refused(Refusal),
     Are(u64, Sums, usize),

@@ -41,7 +41,7 @@ pub(crate) fn count_fields(x: &[u8]) -> usize
 }
 
 // Where a line of a listing ends, and how many fields stand ahead of that from the place asked on.
-#[derive(Drop)]
+#[derive(Clone, Copy)]
 pub(crate) struct Rest {
     pub end: usize,
     pub fields: usize,

@@ -1,4 +1,6 @@
 // The two days of the header, A7 and A11b: each is read at its place, with its rules.
+#![tactic(auto)]
+
 ghost use Rattle.std.specs.Prelude.{◌≡◌, ◌+◌};
 ghost use Rattle.form.specs.Kind.{digits, maybe};
 ghost use Rattle.form.specs.Place.{field_at};
@@ -12,20 +14,20 @@ use fields::{MaybeNumber, Number, Refusal, refusals};
 use layout::width;
 
 // The day of execution, A11b: no date, or a day.
-#[derive(Drop)]
+#[derive(Clone, Copy)]
 pub enum Execution {
     Absent,
     On(Day),
 }
 
 // A day, and the place behind it.
-#[derive(Drop)]
+#[derive(Clone, Copy)]
 pub enum DayRead {
     Refused(Refusal),
     Is(Day, usize),
 }
 
-#[derive(Drop)]
+#[derive(Clone, Copy)]
 pub enum ExecutionRead {
     Refused(Refusal),
     Is(Execution, usize),

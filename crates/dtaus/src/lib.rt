@@ -1,5 +1,7 @@
 // The library for C: each call on numbers and lent slices alone. A slice is a pointer and then the number of its entries. What a call finds
 // it tells in a lent slice of numbers, the result; the number that it returns is the result's first, or 16 where the result is too short.
+#![tactic(auto)]
+
 ghost use Rattle.std.specs.Prelude.{◌≡◌, ◌≤◌, [], ◌∷◌, length};
 ghost use Rattle.verdict.specs.Lent.{filled};
 ghost use Rattle.sums.specs.Sums.{totals_of};

@@ -1,4 +1,6 @@
 // Reads a file on standard input and prints its listing, or its refusal: number, tab, place.
+#![tactic(auto)]
+
 ghost use Rattle.std.specs.Prelude.{◌≡◌};
 ghost use Rattle.reply.specs.Reply.{list_reply};
 

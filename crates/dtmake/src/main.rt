@@ -1,4 +1,6 @@
 // Reads a listing on standard input and prints the file composed from it, or its refusal: number, tab, place.
+#![tactic(auto)]
+
 ghost use Rattle.std.specs.Prelude.{◌≡◌};
 ghost use Rattle.reply.specs.Reply.{make_reply};
 

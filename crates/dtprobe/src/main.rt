@@ -1,5 +1,7 @@
 // A program for tests: reads requests from standard input, makes each call of the library with just the slices that the request lends, and
 // prints the call's whole result and what every lent slice holds afterwards. crates/dtprobe/README.md has the form of requests and answers.
+#![tactic(auto)]
+
 use crate::requests::HEAD;
 use libc::{STDIN_FILENO, STDOUT_FILENO};
 

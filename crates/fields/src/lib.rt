@@ -1,4 +1,6 @@
 // One field at a place of the file: a function for each kind of field. Each is total, and answers what the reader of the form sees there.
+#![tactic(auto)]
+
 ghost use Rattle.std.specs.Prelude.{◌≡◌, ◌+◌, ◌≤◌, min, length, replicate, nat_eq, nat_le};
 ghost use Rattle.form.specs.Kind.{fixed, digits, maybe, choice, every, same, blanks};
 ghost use Rattle.form.specs.Place.{look_at, field_at};
@@ -14,7 +16,7 @@ pub mod fixed;
 pub mod refusals;
 
 // Why a file or a listing is refused: the number and the place.
-#[derive(Drop)]
+#[derive(Clone, Copy)]
 pub struct Refusal {
     pub number: u8,
     pub place: usize,
@@ -26,21 +28,21 @@ pub const NO_REFUSAL: Refusal = Refusal {
 };
 
 // A field, or fields, of which no value is kept: the place behind them.
-#[derive(Drop)]
+#[derive(Clone, Copy)]
 pub enum Passed {
     Refused(Refusal),
     To(usize),
 }
 
 // A number, and the place behind it.
-#[derive(Drop)]
+#[derive(Clone, Copy)]
 pub enum Number {
     Refused(Refusal),
     Is(u64, usize),
 }
 
 // Blanks or a number, and the place behind them.
-#[derive(Drop)]
+#[derive(Clone, Copy)]
 pub enum MaybeNumber {
     Refused(Refusal),
     Blank(usize),
@@ -48,13 +50,13 @@ pub enum MaybeNumber {
 }
 
 // What A3 tells: credits or debits, of a customer or of a bank.
-#[derive(Drop)]
+#[derive(Clone, Copy)]
 pub struct FileKind {
     pub credit: bool,
     pub customer: bool,
 }
 
-#[derive(Drop)]
+#[derive(Clone, Copy)]
 pub enum KindRead {
     Refused(Refusal),
     Is(FileKind, usize),
@@ -141,7 +143,7 @@ fn all_are(f: &[u8], b: u8) -> bool
 }
 
 // The number that digits spell.
-#[derive(Drop)]
+#[derive(Clone, Copy)]
 enum Digits {
     Are(u64),
     Not,
@@ -177,7 +179,7 @@ fn is_sign(b: u8) -> bool
 }
 
 // Whether all bytes of a text are permitted signs, and whether all are blanks.
-#[derive(Drop)]
+#[derive(Clone, Copy)]
 struct Signs {
     permitted: bool,
     blank: bool,

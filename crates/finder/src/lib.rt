@@ -1,4 +1,6 @@
 // Where a payment stands in a file, and where its texts stand: a stretch of the file, or why there is none. Each call checks the whole file.
+#![tactic(auto)]
+
 ghost use Rattle.std.specs.Prelude.{◌≡◌, ◌<◌, true, length};
 ghost use Rattle.std.proofs.Math.Option.{some};
 ghost use Rattle.std.proofs.Math.ListN.{get_elem?};
@@ -14,7 +16,7 @@ use layout::{at, length, width};
 use verdict::Verdict;
 
 // A text of a payment: a field, or that of a part, counted from 1.
-#[derive(Drop)]
+#[derive(Clone, Copy)]
 pub enum Wanted {
     C14a,
     C15,
@@ -23,7 +25,7 @@ pub enum Wanted {
 }
 
 // Where a stretch of the file begins and ends, or why there is none: then it is empty.
-#[derive(Drop)]
+#[derive(Clone, Copy)]
 pub struct Spot {
     pub verdict: Verdict,
     pub from: usize,

@@ -1,4 +1,6 @@
 // The record A, the header: its fields at a place of the file, in two stretches, A1 to A7 and A8 to A12.
+#![tactic(auto)]
+
 ghost use Rattle.std.specs.Prelude.{◌≡◌, ◌+◌};
 ghost use Rattle.form.specs.Kind.{digits};
 ghost use Rattle.form.specs.Place.{field_at, read_at};
@@ -13,7 +15,7 @@ use fields::{FileKind, KindRead, Number, Passed, Refusal, fixed, refusals};
 use layout::width;
 
 // What A tells, as far as the code keeps it: its text, A6, stays in the file.
-#[derive(Drop)]
+#[derive(Clone, Copy)]
 pub struct Header {
     pub kind: FileKind,
     pub bank_code: u64,
@@ -24,21 +26,21 @@ pub struct Header {
     pub execution: Execution,
 }
 
-#[derive(Drop)]
+#[derive(Clone, Copy)]
 pub enum HeaderRead {
     Refused(Refusal),
     Is(Header, usize),
 }
 
 // A1 to A7: the kind of file, the receiving and the sending bank, the day of creation, and the place behind them.
-#[derive(Drop)]
+#[derive(Clone, Copy)]
 enum OpeningRead {
     Refused(Refusal),
     Is(FileKind, u64, u64, Day, usize),
 }
 
 // A8 to A12: the account, the reference, the day of execution, and the place behind them.
-#[derive(Drop)]
+#[derive(Clone, Copy)]
 enum OrderRead {
     Refused(Refusal),
     Is(u64, u64, Execution, usize),

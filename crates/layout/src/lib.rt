@@ -1,5 +1,7 @@
 // Where things stand: the fields of A, C and E in their records, and those of a listing's lines. Every place and every width that the code
 // knows is a constant of this crate, and stands here once.
+#![tactic(auto)]
+
 ghost use Rattle.std.specs.Prelude.{◌≡◌, ◌*◌, min, true, false};
 ghost use Rattle.document.specs.Marks.{most_parts};
 ghost use Rattle.diskette.specs.Writing.{section};
@@ -15,7 +17,7 @@ pub mod width;
 
 // A field of a line: where it stands in its record and how wide; whether it is a text, which may be shorter in the line, and whether it may be
 // absent.
-#[derive(Drop)]
+#[derive(Clone, Copy)]
 pub struct Cell {
     pub place: usize,
     pub width: usize,

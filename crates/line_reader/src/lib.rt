@@ -1,5 +1,7 @@
 // A payment's line read in one walk, straight from the listing, with no record laid out. Where composing makes no payment of the line the answer
 // is no, and the fault is named by the reading that lays out the record.
+#![tactic(auto)]
+
 ghost use Rattle.std.specs.Prelude.{◌≡◌, ◌+◌, ◌≤◌, length, drop};
 ghost use Rattle.layout.specs.Lines.{tab_of_texts};
 ghost use Rattle.fields.specs.Answers.{letters_of};
@@ -22,49 +24,49 @@ const LETTER: u8 = fixed::LETTER_C[0];
 const SIGNS: u64 = 0x03FF_FC71_3FFF_FFFE;
 
 // The sums with a payment's account number and bank code.
-#[derive(Drop)]
+#[derive(Clone, Copy)]
 enum ReceiverSeen {
     No,
     Is(AccountSum, BankCodeSum),
 }
 
 // The sum with a payment's cents.
-#[derive(Drop)]
+#[derive(Clone, Copy)]
 enum AmountSeen {
     No,
     Is(CentSum),
 }
 
 // The sums with all numbers of a payment.
-#[derive(Drop)]
+#[derive(Clone, Copy)]
 enum NumbersSeen {
     No,
     Are(Sums),
 }
 
 // The place behind a text, or behind the three that every payment has.
-#[derive(Drop)]
+#[derive(Clone, Copy)]
 enum TextSeen {
     No,
     To(usize),
 }
 
 // The mark of a part, and the place behind the part.
-#[derive(Drop)]
+#[derive(Clone, Copy)]
 enum PartSeen {
     No,
     Is(u64, usize),
 }
 
 // How many parts there are, and where the line ends.
-#[derive(Drop)]
+#[derive(Clone, Copy)]
 enum PartsSeen {
     No,
     Are(usize, usize),
 }
 
 // The sums with the payment, its bytes in the file, and the place behind its line.
-#[derive(Drop)]
+#[derive(Clone, Copy)]
 pub enum LineSeen {
     No,
     Is(Sums, usize, usize),

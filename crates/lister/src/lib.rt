@@ -1,4 +1,6 @@
 // Listing: the file is checked, then the room in the output, and only then is a byte written.
+#![tactic(auto)]
+
 ghost use Rattle.std.specs.Prelude.{◌≡◌, suc, ◌+◌, ◌≤◌, ◌<◌, true, false, ◌∷◌, length, take, drop, leb};
 ghost use Rattle.verdict.specs.Lent.{filled};
 ghost use Rattle.document.specs.Marks.{most_parts};

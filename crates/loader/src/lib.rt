@@ -1,4 +1,6 @@
 // Loading a file, or a medium of files: it is checked, then the room in the columns, and only then are rows written.
+#![tactic(auto)]
+
 ghost use Rattle.std.specs.Prelude.{◌≡◌, ◌+◌, ◌≤◌, [], ◌∷◌, length, take, drop, T};
 ghost use Rattle.std.proofs.lemmas.List.Edits.{sets};
 ghost use Rattle.form.specs.Kind.{every, digit};
@@ -37,7 +39,7 @@ fn known_number(s: &[u8], p: usize, w: usize) -> u64
 }
 
 // What the payments of one file come to, and the place behind its E.
-#[derive(Drop)]
+#[derive(Clone, Copy)]
 struct FileRows {
     count: u64,
     sums: Sums,

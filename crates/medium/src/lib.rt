@@ -1,4 +1,6 @@
 // The check of a medium: one file or more end to end, in one pass over all of them.
+#![tactic(auto)]
+
 ghost use Rattle.std.specs.Prelude.{◌≡◌};
 ghost use Rattle.diskette.specs.Medium.{medium_answer, medium_outcome};
 ghost use Rattle.medium.specs.Checking.{medium_checked_of, refused_with};
@@ -8,7 +10,7 @@ use fields::Refusal;
 use verdict::Verdict;
 
 // What the check of a medium gives back: the verdict, how many files, and how many payments in all of them; a refused medium has no figures.
-#[derive(Drop)]
+#[derive(Clone, Copy)]
 pub struct MediumChecked {
     pub verdict: Verdict,
     pub files: u64,

@@ -1,5 +1,7 @@
 // How bytes are written into a lent output, and what a call that writes gives back. Each function is total, and one that has no room writes
 // nothing.
+#![tactic(auto)]
+
 ghost use Rattle.std.specs.Prelude.{◌≡◌, ◌%◌, ◌^◌, [], ◌∷◌, length};
 ghost use Rattle.form.specs.Kind.{numeral, blanks};
 ghost use Rattle.listing.specs.Records.{pad};
@@ -11,7 +13,7 @@ use fields::fixed;
 use verdict::Verdict;
 
 // What a call that writes gives back: the verdict, and how many bytes it wrote; a refused call has written none.
-#[derive(Drop)]
+#[derive(Clone, Copy)]
 pub struct Written {
     pub verdict: Verdict,
     pub length: usize,

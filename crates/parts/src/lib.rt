@@ -1,4 +1,6 @@
 // The extension parts of a payment, with the blanks that close its sections. Each part is handed on as a slice of its own.
+#![tactic(auto)]
+
 ghost use Rattle.std.specs.Prelude.{◌≡◌, take, drop};
 ghost use Rattle.form.specs.Kind.{digits};
 ghost use Rattle.form.specs.Place.{look_at, field_at, read_at};

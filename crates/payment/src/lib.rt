@@ -1,4 +1,6 @@
 // A payment: its length, the first field after A or a C; then the stretches that every payment has, and its parts.
+#![tactic(auto)]
+
 ghost use Rattle.std.specs.Prelude.{◌≡◌, ◌+◌};
 ghost use Rattle.form.specs.Kind.{digits};
 ghost use Rattle.form.specs.Place.{field_at, read_at};
@@ -16,7 +18,7 @@ use sums::Sums;
 pub const MOST_PAYMENTS: u64 = 9_999_999;
 
 // The sums with one payment more, and the place behind it.
-#[derive(Drop)]
+#[derive(Clone, Copy)]
 pub enum PaymentRead {
     Refused(Refusal),
     Is(Sums, usize),

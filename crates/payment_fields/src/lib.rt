@@ -1,4 +1,6 @@
 // The fields of a payment that every payment has, in four stretches: C2 to C7b, C8 to C12, C13 to C16, C17a to C18.
+#![tactic(auto)]
+
 ghost use Rattle.std.specs.Prelude.{◌≡◌, ◌+◌};
 ghost use Rattle.form.specs.Kind.{digits};
 ghost use Rattle.form.specs.Place.{field_at, read_at};
@@ -13,28 +15,28 @@ use layout::{length, width};
 use sums::{AccountSum, AccountsAdded, BankCodeSum, BankCodesAdded, CentSum, CentsAdded};
 
 // The sum of account numbers with one more, and the place behind C5.
-#[derive(Drop)]
+#[derive(Clone, Copy)]
 enum AccountsRead {
     Refused(Refusal),
     Is(AccountSum, usize),
 }
 
 // The sum of bank codes with one more, and the place behind C4.
-#[derive(Drop)]
+#[derive(Clone, Copy)]
 enum BankCodesRead {
     Refused(Refusal),
     Is(BankCodeSum, usize),
 }
 
 // The sum of cents with one amount more, and the place behind C12.
-#[derive(Drop)]
+#[derive(Clone, Copy)]
 pub enum CentsRead {
     Refused(Refusal),
     Is(CentSum, usize),
 }
 
 // The sums with a payment's account number and bank code, and the place behind C7b.
-#[derive(Drop)]
+#[derive(Clone, Copy)]
 pub enum ReceiverRead {
     Refused(Refusal),
     Is(AccountSum, BankCodeSum, usize),

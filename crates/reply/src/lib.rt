@@ -1,4 +1,6 @@
 // What the programs print, made in a lent output: what the call has written there, or one line with the number and the place of the refusal.
+#![tactic(auto)]
+
 ghost use Rattle.std.specs.Prelude.{◌≡◌, length};
 ghost use Rattle.verdict.specs.Lent.{filled};
 ghost use Rattle.reply.specs.Reply.{digits_within, refusal_line, fitting, list_reply, make_reply};

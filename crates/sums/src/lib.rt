@@ -1,4 +1,6 @@
 // The three control totals: account numbers, bank codes and cents never meet in one addition.
+#![tactic(auto)]
+
 ghost use Rattle.std.specs.Prelude.{◌≡◌};
 ghost use Rattle.sums.specs.Sums.{accounts_added, bank_codes_added, cents_added};
 
@@ -8,16 +10,16 @@ const MOST_OF_17: u64 = 99_999_999_999_999_999;
 // The highest sum of cents: 13 digits.
 pub const MOST_CENTS: u64 = 9_999_999_999_999;
 
-#[derive(Drop)]
+#[derive(Clone, Copy)]
 pub struct AccountSum(pub u64);
 
-#[derive(Drop)]
+#[derive(Clone, Copy)]
 pub struct BankCodeSum(pub u64);
 
-#[derive(Drop)]
+#[derive(Clone, Copy)]
 pub struct CentSum(pub u64);
 
-#[derive(Drop)]
+#[derive(Clone, Copy)]
 pub struct Sums {
     pub accounts: AccountSum,
     pub banks: BankCodeSum,
@@ -31,21 +33,21 @@ pub const NO_SUMS: Sums = Sums {
 };
 
 // The sum of account numbers with one more, or that it has too many digits.
-#[derive(Drop)]
+#[derive(Clone, Copy)]
 pub enum AccountsAdded {
     Over,
     Within(AccountSum),
 }
 
 // The sum of bank codes with one more, or that it has too many digits.
-#[derive(Drop)]
+#[derive(Clone, Copy)]
 pub enum BankCodesAdded {
     Over,
     Within(BankCodeSum),
 }
 
 // The sum of cents with one amount more, or that it has too many digits.
-#[derive(Drop)]
+#[derive(Clone, Copy)]
 pub enum CentsAdded {
     Over,
     Within(CentSum),

@@ -1,6 +1,8 @@
 // The view of one payment: it holds the file and where the payment begins, and hands out the payment's texts as stretches of the file itself.
 // What branches stands in `finder`, on plain parameters, but for the choice between two verdicts. The calls here make a view, take one or take one
 // apart, and only go from a spot to a stretch of the file.
+#![tactic(auto)]
+
 ghost use Rattle.std.specs.Prelude.{◌≡◌, ◌≤◌, length};
 ghost use Rattle.finder.specs.Spots.{find_at, locate_at};
 ghost use Rattle.view.specs.Views.{Stretch, IsMade, IsHanded, IsText, first_of, verdict_for};
@@ -9,21 +11,21 @@ use finder::Wanted;
 use verdict::Verdict;
 
 // A view of one payment: the file, and where the payment begins in it.
-#[derive(Drop)]
+#[derive(Clone, Copy)]
 pub struct View<'a> {
     pub file: &'a [u8],
     pub start: usize,
 }
 
 // What making gives back: the view, and the verdict. A refused view has no bytes, and start 0.
-#[derive(Drop)]
+#[derive(Clone, Copy)]
 pub struct Made<'a> {
     pub view: View<'a>,
     pub verdict: Verdict,
 }
 
 // What a hand-out gives back: the text, and the verdict. A refused text is empty.
-#[derive(Drop)]
+#[derive(Clone, Copy)]
 pub struct Handed<'a> {
     pub text: &'a [u8],
     pub verdict: Verdict,
