@@ -68,11 +68,11 @@ payment_laid kind q l =
       append-nil (write_parts 0 q.parts),
     )
 
-parts_printed : (p i : ℕ) (ps : List Part) → All (λ m. (1 ≤ m) × (m ≤ 3)) (map mark_of ps) → All (λ (q : Part). Text q.words) ps
+parts_printed : (i p : ℕ) (ps : List Part) → All (λ m. (1 ≤ m) × (m ≤ 3)) (map mark_of ps) → All (λ (q : Part). Text q.words) ps
     → AllPrinted (cells p (record_parts i (length ps))) (part_fields ps)
-parts_printed p i [] m a = tt
-parts_printed p i (q ∷ qs) m a =
-    number_printed 2 q.mark (omega (arith, m.0.1)) ▸ text_printed q.words a.0 ▸ parts_printed _ (suc i) qs m.1 a.1
+parts_printed i p [] m a = tt
+parts_printed i p (q ∷ qs) m a =
+    number_printed 2 q.mark (omega (arith, m.0.1)) ▸ text_printed q.words a.0 ▸ parts_printed (suc i) _ qs m.1 a.1
 
 payment_printed : (kind : List ℕ) (q : Payment) → LegalPayment kind q → AllPrinted (cells 0 (record_c (length q.parts))) (payment_fields q)
 payment_printed kind q l =
@@ -88,7 +88,7 @@ payment_printed kind q l =
     ▸ text_printed q.beneficiary l.C14a
     ▸ text_printed q.sender l.C15
     ▸ text_printed q.purpose l.C16
-    ▸ parts_printed _ 0 q.parts l.marks.each l.words
+    ▸ parts_printed 0 _ q.parts l.marks.each l.words
 
 pub payment_formed : (kind : List ℕ) (q : Payment) → LegalPayment kind q → T (formed (cells 0 (record_c (length q.parts))) (payment_fields q))
 payment_formed kind q l = printed_formed (cells 0 (record_c (length q.parts))) (payment_fields q) (payment_printed kind q l)
