@@ -1,0 +1,11 @@
+-- output::copy meets its contract: with room for all the bytes they are written one by one, and none without.
+use Prim.Native.Nat.{◌-◌}
+use lib.ListN.{length}
+use Rattle.output.proofs.WritingLaws.{Writing}
+use Rattle.output.proofs.copy.Given as goal
+
+abbrev pub invariant-loop-i : goal.invariant-loop-i
+invariant-loop-i l = Writing l.initial.out l.p l.t l.out l.i
+
+abbrev pub decreases-loop-i : goal.decreases-loop-i
+decreases-loop-i l = length l.t - l.i
