@@ -1,0 +1,48 @@
+-- line_reader::amount_at meets its contract: each number is read, keeps its rules, and the cents are added.
+-- There is no loop; each return is one answer. At the last all has gone well: what the leaves have read (`number_is`), the tests passed (`both`,
+-- `each`) and the sum within its limit make the amount, field by field (`returns-6`, by `kept_c10` to `kept_c12`). Each of the others has to
+-- deny every amount at p: one that stood there would be read, with the very numbers that the code has read, and keep the rule whose test failed
+-- (`no_number`, `amount_tests`, `keeps_c12`). The rest is by `search rules`.
+use mathlib.Core.Path.{sym, ◌∙◌}
+use Rattle.fields.proofs.AnswerLaws.{number_is}
+use Rattle.sums.proofs.Laws.{cents_within, cents_over}
+use Rattle.line_reader.proofs.KeptLaws.{both, each, kept_c10, kept_c11, kept_c12, no_number, failed, read_c10, read_c11, read_c12, keeps_c12, amount_tests}
+use Rattle.line_reader.proofs.amount_at.Goals as goal
+
+pub returns-in_default : goal.returns-in_default
+returns-in_default c = λ x a. no_number _ _ _ c.number_at-c10.ensures c.in_default.is (read_c10 a)
+
+pub returns-in_default-c11 : goal.returns-in_default-c11
+returns-in_default-c11 c = λ x a. no_number _ _ _ c.number_at-c11.ensures c.in_default-c11.is (read_c11 a)
+
+pub returns-in_default-c12 : goal.returns-in_default-c12
+returns-in_default-c12 c = λ x a. no_number _ _ _ c.number_at-c12.ensures c.in_default-c12.is (read_c12 a)
+
+pub returns-then-not-sender-v : goal.returns-then-not-sender-v
+returns-then-not-sender-v c =
+    let c10 = (number_is _ _ _ c.number_at-c10.ensures c.in-Is.is).0 in
+    let c11 = (number_is _ _ _ c.number_at-c11.ensures c.in-Is-c11.is).0 in
+    let c12 = (number_is _ _ _ c.number_at-c12.ensures c.in-Is-c12.is).0 in
+    λ x a. amount_tests a c10 c11 c12 c.bank_code_ok.ensures c.if-not-sender-v.true-raw
+
+pub returns-in_default-new_cents : goal.returns-in_default-new_cents
+returns-in_default-new_cents c =
+    let c12 = (number_is _ _ _ c.number_at-c12.ensures c.in-Is-c12.is).0 in
+    λ x a. failed (keeps_c12 a c12).1.0 (cents_over _ _ c.add-new_cents.ensures c.in_default-new_cents.is)
+
+pub returns : goal.returns
+returns c =
+    let at-c12 = c in
+    let at-c11 = c in
+    let at-c10 = c in
+    let tests = both _ _ c.if-not-sender-v.false-raw in
+    let sender = each _ _ tests.0 in
+    let on = cents_within _ _ c.add-new_cents.ensures c.in-Within.is in
+    record {
+      fields =
+          record { sender_bank = at-c10.c10.given.0.0; sender_account = at-c11.c11.given.0.0; cents = at-c12.c12.given.0.0 };
+      C10 = kept_c10 _ _ _ (number_is _ _ _ at-c10.before.before.number_at.ensures at-c10.c10.given.1).0 (sym c.bank_code_ok.ensures ∙ sender.0);
+      C11 = kept_c11 _ _ _ (number_is _ _ _ at-c11.before.before.number-at2.ensures at-c11.c11.given.1).0 sender.1;
+      C12 = kept_c12 _ _ _ _ (number_is _ _ _ at-c12.before.before.number-at3.ensures at-c12.c12.given.1).0 tests.1 on.0;
+      cents_on = on.1;
+    }
