@@ -32,17 +32,14 @@ returns-in_default-new_cents c =
 
 pub returns : goal.returns
 returns c =
-    let at-c12 = c in
-    let at-c11 = c in
-    let at-c10 = c in
     let tests = both _ _ c.if-not-sender-v.false-raw in
     let sender = each _ _ tests.0 in
     let on = cents_within _ _ c.add-new_cents.ensures c.in-Within.is in
     record {
       fields =
-          record { sender_bank = at-c10.c10.given.0.0; sender_account = at-c11.c11.given.0.0; cents = at-c12.c12.given.0.0 };
-      C10 = kept_c10 _ _ _ (number_is _ _ _ at-c10.before.before.number_at.ensures at-c10.c10.given.1).0 (sym c.bank_code_ok.ensures ∙ sender.0);
-      C11 = kept_c11 _ _ _ (number_is _ _ _ at-c11.before.before.number-at2.ensures at-c11.c11.given.1).0 sender.1;
-      C12 = kept_c12 _ _ _ _ (number_is _ _ _ at-c12.before.before.number-at3.ensures at-c12.c12.given.1).0 tests.1 on.0;
+          record { sender_bank = c.in-Is.bank_code; sender_account = c.in-Is-c11.account; cents = c.in-Is-c12.v };
+      C10 = kept_c10 _ _ _ (number_is _ _ _ c.number_at-c10.ensures c.in-Is.is).0 (sym c.bank_code_ok.ensures ∙ sender.0);
+      C11 = kept_c11 _ _ _ (number_is _ _ _ c.number_at-c11.ensures c.in-Is-c11.is).0 sender.1;
+      C12 = kept_c12 _ _ _ _ (number_is _ _ _ c.number_at-c12.ensures c.in-Is-c12.is).0 tests.1 on.0;
       cents_on = on.1;
     }

@@ -23,7 +23,7 @@ returns-in_default c = told_no _ _ _ _ _ (λ new k e s. numbers_none c.numbers_a
 pub overflow_add-p : goal.overflow_add-p
 overflow_add-p c =
     let h = (numbers_is c.numbers_at-numbers.ensures c.in-Are.is).inside in
-    omega (arith, c.well-formed)
+    omega (arith, c.well_formed)
 
 pub returns-in_default-names : goal.returns-in_default-names
 returns-in_default-names c = told_no _ _ _ _ _ (λ new k e s. subst (Names _ _) c.in_default-names.is c.names_at-names.ensures s.behind_texts s.texts)
@@ -38,7 +38,7 @@ returns-in_default-parts c =
 pub overflow_add-next : goal.overflow_add-next
 overflow_add-next c =
     let seen : let a = c.args in Seen a.l.now a.p (letters_of a.kind) a.count a.sums c.in-Are.new_sums c.in-Are-parts.k c.in-Are-parts.e = record { may = c.if-count-ge-MOST_PAYMENTS.false; numbers = numbers_is c.numbers_at-numbers.ensures c.in-Are.is; behind_texts = c.in-To.first; texts = subst (Names _ _) c.in-To.is c.names_at-names.ensures; parts = subst (AllParts _ _) c.in-Are-parts.is c.parts_from-parts.ensures; } in
-    omega (arith, end_inside seen, c.well-formed)
+    omega (arith, end_inside seen, c.well_formed)
 
 pub returns : goal.returns
 returns c =

@@ -49,14 +49,7 @@ returns-in_default-new_banks c =
 
 pub returns : goal.returns
 returns c =
-    let at-if = c in
-    let at-c7b = c in
-    let at-c7a = c in
-    let at-c6 = c in
-    let at-c5 = c in
-    let at-c4 = c in
-    let at-c3 = c in
-    let tests = both _ _ at-if.if1.false in
+    let tests = both _ _ c.if-not-receiver-customer_ok.false-raw in
     let numbers = each _ _ tests.0 in
     let receiver = each _ _ numbers.0 in
     let keys = each _ _ tests.1 in
@@ -65,21 +58,21 @@ returns c =
     record {
       fields =
           record {
-            first_bank = at-c3.enum_told.given.0.0;
-            bank_code = at-c4.c4.given.0.0;
-            account = at-c5.c5.given.0.0;
-            customer = at-c6.c6.given.0.0;
-            key = at-c7a.c7a.given.0.0;
-            supplement = at-c7b.c7b.given.0.0;
+            first_bank = c.in-Is.field-0;
+            bank_code = c.in-Is-c4.bank_code;
+            account = c.in-Is-c5.account;
+            customer = c.in-Is-c6.customer;
+            key = c.in-Is-c7a.key;
+            supplement = c.in-Is-c7b.supplement;
           };
-      C3 = (number_is _ _ _ at-c3.before.before.number_at.ensures at-c3.enum_told.given.1).0;
+      C3 = (number_is _ _ _ c.number_at-c3.ensures c.in-Is.is).0;
       C4 =
-          kept_c4 _ _ _ _ (number_is _ _ _ at-c4.before.before.number-at2.ensures at-c4.c4.given.1).0 (sym c.bank_code_ok.ensures ∙ receiver.0)
+          kept_c4 _ _ _ _ (number_is _ _ _ c.number_at-c4.ensures c.in-Is-c4.is).0 (sym c.bank_code_ok.ensures ∙ receiver.0)
           banks.0;
-      C5 = kept_c5 _ _ _ _ (number_is _ _ _ at-c5.before.before.number-at3.ensures at-c5.c5.given.1).0 receiver.1 on.0;
-      C6 = kept_c6 _ _ _ (number_is _ _ _ at-c6.before.before.number-at4.ensures at-c6.c6.given.1).0 (sym c.customer_ok.ensures ∙ numbers.1);
-      C7a = kept_c7a _ _ _ (letters_of c.args.kind) (number_is _ _ _ at-c7a.before.before.number-at5.ensures at-c7a.c7a.given.1).0 (sym c.key_ok.ensures ∙ keys.0);
-      C7b = kept_c7b _ _ _ at-c7a.c7a.given.0.0 (number_is _ _ _ at-c7b.before.before.number-at6.ensures at-c7b.c7b.given.1).0 (sym c.supplement_ok.ensures ∙ keys.1);
+      C5 = kept_c5 _ _ _ _ (number_is _ _ _ c.number_at-c5.ensures c.in-Is-c5.is).0 receiver.1 on.0;
+      C6 = kept_c6 _ _ _ (number_is _ _ _ c.number_at-c6.ensures c.in-Is-c6.is).0 (sym c.customer_ok.ensures ∙ numbers.1);
+      C7a = kept_c7a _ _ _ (letters_of c.args.kind) (number_is _ _ _ c.number_at-c7a.ensures c.in-Is-c7a.is).0 (sym c.key_ok.ensures ∙ keys.0);
+      C7b = kept_c7b _ _ _ c.in-Is-c7a.key (number_is _ _ _ c.number_at-c7b.ensures c.in-Is-c7b.is).0 (sym c.supplement_ok.ensures ∙ keys.1);
       accounts_on = on.1;
       banks_on = banks.1;
     }

@@ -1,16 +1,16 @@
 use Prim.Native.Nat.{◌-◌}
 use native.Mathlib.Omega.{arith}
-use mathlib.Core.Logic.{⊎_elim}
 use mathlib.Core.Path.{sym, ◌∙◌}
 use borrow.Author.Tests.{not-true, not-false}
 use Rattle.line_reader.proofs.SignsLaws.{looked_none, looked_more, looked_stop, looked_end}
 use Rattle.line_reader.proofs.signs_end.Goals as goal
+use Rattle.line_reader.proofs.signs_end.Goals.{else-end-p-gt-TEXT, then-end-p-gt-TEXT}
 
 pub loop-i-init : goal.loop-i-init
 loop-i-init c =
     let s = looked_none c.args.l.now c.args.p in
     let h = c.requires in
-    ⊎_elim (λ w. (omega arith, omega arith, s)) (λ w. (omega arith, omega arith, s)) c.if-end-p-gt-TEXT.branch
+    elim c.if-end-p-gt-TEXT.branch [ then-end-p-gt-TEXT w ↦ (omega arith, omega arith, s) | else-end-p-gt-TEXT w ↦ (omega arith, omega arith, s) ]
 
 pub bounds-l-i : goal.bounds-l-i
 bounds-l-i c = omega arith
