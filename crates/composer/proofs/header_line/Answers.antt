@@ -1,0 +1,42 @@
+-- composer::header_line meets its contract: the line's form, then its record, laid out and read.
+-- behind the test the line has its form
+use native.Mathlib.Omega.{arith}
+use mathlib.Core.Path.{refl, sym, ap, ◌∙◌}
+use mathlib.Core.Bool.{true}
+use borrow.Author.Tests.{not-false, not-true}
+use Rattle.form.specs.Place.{read_at}
+use Rattle.diskette.specs.Fields.{header}
+use Rattle.fields.specs.Answers.{of_read}
+use Rattle.header.specs.Heading.{headers}
+use Rattle.listing.specs.Records.{fields_of_header_line}
+use Rattle.composer.specs.Telling.{FormedLine}
+use Rattle.composer.proofs.ToldLaws.{header_denied, header_refuses, header_accepts}
+use Rattle.composer.proofs.header_line.Goals as goal
+
+pub returns-then-not-formed : goal.returns-then-not-formed
+returns-then-not-formed c = header_denied _ _ c.refuse.ensures (sym c.formed.ensures ∙ not-true _ c.if-not-formed.true-raw)
+
+pub lay_header-requires : goal.lay_header-requires
+lay_header-requires c =
+    let formed : FormedLine true fields_of_header_line c.args.x.now = (omega arith, (omega arith, sym c.formed.ensures ∙ not-false _ c.if-not-formed.false-raw)) in
+    (formed, refl)
+
+pub refused_in-requires : goal.refused_in-requires
+refused_in-requires c =
+    let formed : FormedLine true fields_of_header_line c.args.x.now = (omega arith, (omega arith, sym c.formed.ensures ∙ not-false _ c.if-not-formed.false-raw)) in
+    let l = c.well_formed.0.1 in
+    (formed, omega arith)
+
+pub returns-in_default : goal.returns-in_default
+returns-in_default c =
+    let formed : FormedLine true fields_of_header_line c.args.x.now = (omega arith, (omega arith, sym c.formed.ensures ∙ not-false _ c.if-not-formed.false-raw)) in
+    header_refuses _ _ formed.1.1
+    (c.header_at-a.ensures ∙ ap (λ f. of_read headers (read_at header f 0)) c.lay_header.ensures)
+    c.in_default.is c.why.ensures c.refused_in.ensures
+
+pub returns : goal.returns
+returns c =
+    let formed : FormedLine true fields_of_header_line c.args.x.now = (omega arith, (omega arith, sym c.formed.ensures ∙ not-false _ c.if-not-formed.false-raw)) in
+    header_accepts _ _ formed.1.1
+    (c.header_at-a.ensures ∙ ap (λ f. of_read headers (read_at header f 0)) c.lay_header.ensures)
+    c.in-Is.is

@@ -1,0 +1,20 @@
+-- composer::read_payments meets its contract: line by line, and then the end.
+-- The loop keeps `Reading`: what is to be told of all lines is what is owed of the lines from p on; and the space keeps its length. Each turn
+-- takes apart what `line_at` told: a payment takes the loop on (`reading_more`), a refusal ends it (`reading_refused`), and a line that has no
+-- end leads to the returns behind the loop (`reading_cut`, `reading_none`, `reading_ends`). The loop ends, and neither count nor size wraps,
+-- since at most 9,999,999 payments are told, none longer than one with the most parts (`one_more`, `record_small`).
+-- the space is as long as it was
+use Prim.Native.Nat.{◌-◌, ◌*◌}
+use mathlib.Core.Path.{◌≡◌}
+use lib.ListN.{length}
+use Rattle.document.specs.Marks.{most_parts}
+use Rattle.document.specs.Rules.{most_payments}
+use Rattle.diskette.specs.Writing.{section}
+use Rattle.composer.proofs.ReadingLaws.{Reading}
+use Rattle.composer.proofs.read_payments.Given as goal
+
+abbrev pub invariant-loop-why : goal.invariant-loop-why
+invariant-loop-why l = Reading l.l l.kind l.start l.count l.sums l.size l.p × (length l.space ≡ 128 * section most_parts)
+
+abbrev pub decreases-loop-why : goal.decreases-loop-why
+decreases-loop-why l = most_payments - l.count
