@@ -76,9 +76,9 @@ unfolding payments_of given
 rows_written = refl
 
 -- two payments, and one row in the last column: no room, and then nothing is written
-pub no_room : loading (old ∷ old ∷ old ∷ (1 ∷ []) ∷ []) (answer file) ≡ no_room
+pub no_room_lem : loading (old ∷ old ∷ old ∷ (1 ∷ []) ∷ []) (answer file) ≡ no_room
 unfolding loading given
-no_room = refl
+no_room_lem = refl
 
 pub nothing_written : filled (starts (rows (checked_of no_room) file)) old ≡ old
 nothing_written = refl

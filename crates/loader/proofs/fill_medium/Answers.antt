@@ -9,102 +9,95 @@ use Rattle.loader.specs.declared.FileRows.{FileRows}
 use Rattle.loader.proofs.MediumFillLaws.{TableRoomy, files_in, columns_roomy, table_roomy, NextFile, medium_start, next_file, rows_behind, files_behind, may_fill_file, rows_told, medium_more, medium_ends}
 use Rattle.loader.proofs.fill_medium.Goals as goal
 
-abbrev In-loop : Type 0
-In-loop = tie.In-loop invariant-loop decreases-loop
-
-abbrev begun : In-loop → tie.Start invariant-loop decreases-loop
-begun c = c.before.before.before.before.before.before.before.before.before.before.before.before
-
-abbrev coming : (c : In-loop) → NextFile (begun c).args.s.now c.before.loop.p c.before.loop.invariant.left
-coming c = next_file (begun c).requires c.before.loop.invariant c.loop-test.true
-
-file-inside : (c : In-loop) → c.before.loop.file < length (files_in (begun c).args.s.now)
-file-inside c = let n = files_behind (begun c).requires c.before.loop.invariant c.loop-test.true in omega arith
-
-room : (c : In-loop) → let a = (begun c).args in TableRoomy (length (files_in a.s.now)) a.begin.now a.count.now a.sum5.now a.sum4.now a.sum12.now
-room c = table_roomy (begun c).requires
-
 pub loop-p-init : goal.loop-p-init
 loop-p-init c = medium_start c.requires
 
 pub fill-rows-requires : goal.fill-rows-requires
-fill-rows-requires c = may_fill_file (begun c).requires c.loop-p.invariant c.loop-p-test.true
+fill-rows-requires c = may_fill_file c.requires c.loop-p.invariant c.loop-p-test.true
 
 pub offset_bounds-begin-file : goal.offset_bounds-begin-file
 offset_bounds-begin-file c =
-    let turn : In-loop = c in
-    let t = turn in omega (arith, (room t).begin, file-inside t, t.before.loop.inv.file_starts_left.long, (begun t).good.1.1.1.1.1.0.1)
+    let file-inside : c.loop-p.file < length (files_in c.args.s.now) = let n = files_behind c.requires c.loop-p.invariant c.loop-p-test.true in omega arith in
+    let room : let a = c.args in TableRoomy (length (files_in a.s.now)) a.begin.now a.count.now a.sum5.now a.sum4.now a.sum12.now = table_roomy c.requires in
+    omega (arith, room.begin, file-inside, c.loop-p.invariant.file_starts_left.long, c.well_formed.1.1.1.1.1.0.1)
 
 pub bounds-begin-file : goal.bounds-begin-file
 bounds-begin-file c =
-    let turn : In-loop = c in
-    let t = turn in omega (arith, (room t).begin, file-inside t, t.before.loop.inv.file_starts_left.long)
+    let file-inside : c.loop-p.file < length (files_in c.args.s.now) = let n = files_behind c.requires c.loop-p.invariant c.loop-p-test.true in omega arith in
+    let room : let a = c.args in TableRoomy (length (files_in a.s.now)) a.begin.now a.count.now a.sum5.now a.sum4.now a.sum12.now = table_roomy c.requires in
+    omega (arith, room.begin, file-inside, c.loop-p.invariant.file_starts_left.long)
 
 pub offset_bounds-count-file : goal.offset_bounds-count-file
 offset_bounds-count-file c =
-    let turn : In-loop = c in
-    let t = turn in omega (arith, (room t).count, file-inside t, t.before.loop.inv.file_counts_left.long, (begun t).good.1.1.1.1.1.1.0.1)
+    let file-inside : c.loop-p.file < length (files_in c.args.s.now) = let n = files_behind c.requires c.loop-p.invariant c.loop-p-test.true in omega arith in
+    let room : let a = c.args in TableRoomy (length (files_in a.s.now)) a.begin.now a.count.now a.sum5.now a.sum4.now a.sum12.now = table_roomy c.requires in
+    omega (arith, room.count, file-inside, c.loop-p.invariant.file_counts_left.long, c.well_formed.1.1.1.1.1.1.0.1)
 
 pub bounds-count-file : goal.bounds-count-file
 bounds-count-file c =
-    let turn : In-loop = c in
-    let t = turn in omega (arith, (room t).count, file-inside t, t.before.loop.inv.file_counts_left.long)
+    let file-inside : c.loop-p.file < length (files_in c.args.s.now) = let n = files_behind c.requires c.loop-p.invariant c.loop-p-test.true in omega arith in
+    let room : let a = c.args in TableRoomy (length (files_in a.s.now)) a.begin.now a.count.now a.sum5.now a.sum4.now a.sum12.now = table_roomy c.requires in
+    omega (arith, room.count, file-inside, c.loop-p.invariant.file_counts_left.long)
 
 pub offset_bounds-sum5-file : goal.offset_bounds-sum5-file
 offset_bounds-sum5-file c =
-    let turn : In-loop = c in
-    let t = turn in omega (arith, (room t).sum5, file-inside t, t.before.loop.inv.file_accounts_left.long, (begun t).good.1.1.1.1.1.1.1.0.1)
+    let file-inside : c.loop-p.file < length (files_in c.args.s.now) = let n = files_behind c.requires c.loop-p.invariant c.loop-p-test.true in omega arith in
+    let room : let a = c.args in TableRoomy (length (files_in a.s.now)) a.begin.now a.count.now a.sum5.now a.sum4.now a.sum12.now = table_roomy c.requires in
+    omega (arith, room.sum5, file-inside, c.loop-p.invariant.file_accounts_left.long, c.well_formed.1.1.1.1.1.1.1.0.1)
 
 pub bounds-sum5-file : goal.bounds-sum5-file
 bounds-sum5-file c =
-    let turn : In-loop = c in
-    let t = turn in omega (arith, (room t).sum5, file-inside t, t.before.loop.inv.file_accounts_left.long)
+    let file-inside : c.loop-p.file < length (files_in c.args.s.now) = let n = files_behind c.requires c.loop-p.invariant c.loop-p-test.true in omega arith in
+    let room : let a = c.args in TableRoomy (length (files_in a.s.now)) a.begin.now a.count.now a.sum5.now a.sum4.now a.sum12.now = table_roomy c.requires in
+    omega (arith, room.sum5, file-inside, c.loop-p.invariant.file_accounts_left.long)
 
 pub offset_bounds-sum4-file : goal.offset_bounds-sum4-file
 offset_bounds-sum4-file c =
-    let turn : In-loop = c in
-    let t = turn in omega (arith, (room t).sum4, file-inside t, t.before.loop.inv.file_bank_codes_left.long, (begun t).good.1.1.1.1.1.1.1.1.0.1)
+    let file-inside : c.loop-p.file < length (files_in c.args.s.now) = let n = files_behind c.requires c.loop-p.invariant c.loop-p-test.true in omega arith in
+    let room : let a = c.args in TableRoomy (length (files_in a.s.now)) a.begin.now a.count.now a.sum5.now a.sum4.now a.sum12.now = table_roomy c.requires in
+    omega (arith, room.sum4, file-inside, c.loop-p.invariant.file_bank_codes_left.long, c.well_formed.1.1.1.1.1.1.1.1.0.1)
 
 pub bounds-sum4-file : goal.bounds-sum4-file
 bounds-sum4-file c =
-    let turn : In-loop = c in
-    let t = turn in omega (arith, (room t).sum4, file-inside t, t.before.loop.inv.file_bank_codes_left.long)
+    let file-inside : c.loop-p.file < length (files_in c.args.s.now) = let n = files_behind c.requires c.loop-p.invariant c.loop-p-test.true in omega arith in
+    let room : let a = c.args in TableRoomy (length (files_in a.s.now)) a.begin.now a.count.now a.sum5.now a.sum4.now a.sum12.now = table_roomy c.requires in
+    omega (arith, room.sum4, file-inside, c.loop-p.invariant.file_bank_codes_left.long)
 
 pub offset_bounds-sum12-file : goal.offset_bounds-sum12-file
 offset_bounds-sum12-file c =
-    let turn : In-loop = c in
-    let t = turn in omega (arith, (room t).sum12, file-inside t, t.before.loop.inv.file_cents_left.long, (begun t).good.1.1.1.1.1.1.1.1.1.0.1)
+    let file-inside : c.loop-p.file < length (files_in c.args.s.now) = let n = files_behind c.requires c.loop-p.invariant c.loop-p-test.true in omega arith in
+    let room : let a = c.args in TableRoomy (length (files_in a.s.now)) a.begin.now a.count.now a.sum5.now a.sum4.now a.sum12.now = table_roomy c.requires in
+    omega (arith, room.sum12, file-inside, c.loop-p.invariant.file_cents_left.long, c.well_formed.1.1.1.1.1.1.1.1.1.0.1)
 
 pub bounds-sum12-file : goal.bounds-sum12-file
 bounds-sum12-file c =
-    let turn : In-loop = c in
-    let t = turn in omega (arith, (room t).sum12, file-inside t, t.before.loop.inv.file_cents_left.long)
+    let file-inside : c.loop-p.file < length (files_in c.args.s.now) = let n = files_behind c.requires c.loop-p.invariant c.loop-p-test.true in omega arith in
+    let room : let a = c.args in TableRoomy (length (files_in a.s.now)) a.begin.now a.count.now a.sum5.now a.sum4.now a.sum12.now = table_roomy c.requires in
+    omega (arith, room.sum12, file-inside, c.loop-p.invariant.file_cents_left.long)
 
 pub overflow_add-row : goal.overflow_add-row
 overflow_add-row c =
-    let turn : In-loop = c in
-    let given : c.fill-rows.result ≡ (let d = (coming turn).says in record { count = length d.payments; sums = sums_of (totals d.payments); next = turn.before.loop.p + length (write d) }) = rows_told (begun turn).pre turn.before.loop.invariant turn.loop-test.true c.fill-rows.ensures.answer in
-    let t = turn in
+    let coming : NextFile c.args.s.now c.loop-p.p c.loop-p.invariant.left = next_file c.requires c.loop-p.invariant c.loop-p-test.true in
+    let given : c.fill-rows.result ≡ (let d = coming.says in record { count = length d.payments; sums = sums_of (totals d.payments); next = c.loop-p.p + length (write d) }) = rows_told c.requires c.loop-p.invariant c.loop-p-test.true c.fill-rows.ensures.answer in
     let n = ap (λ (z : FileRows). z.count) given in
-    omega (arith, n, rows_behind (begun t).pre t.before.loop.inv t.loop-test.taken, (columns_roomy (begun t).pre).c4, (begun t).good.1.0.1)
+    omega (arith, n, rows_behind c.requires c.loop-p.invariant c.loop-p-test.true, (columns_roomy c.requires).c4, c.well_formed.1.0.1)
 
 pub overflow_add-file : goal.overflow_add-file
 overflow_add-file c =
-    let turn : In-loop = c in
-    let t = turn in omega (arith, file-inside t, (room t).begin, (begun t).good.1.1.1.1.1.0.1)
+    let file-inside : c.loop-p.file < length (files_in c.args.s.now) = let n = files_behind c.requires c.loop-p.invariant c.loop-p-test.true in omega arith in
+    let room : let a = c.args in TableRoomy (length (files_in a.s.now)) a.begin.now a.count.now a.sum5.now a.sum4.now a.sum12.now = table_roomy c.requires in
+    omega (arith, file-inside, room.begin, c.well_formed.1.1.1.1.1.0.1)
 
 pub loop-p-smaller : goal.loop-p-smaller
 loop-p-smaller c =
-    let turn : In-loop = c in
-    let given : c.fill-rows.result ≡ (let d = (coming turn).says in record { count = length d.payments; sums = sums_of (totals d.payments); next = turn.before.loop.p + length (write d) }) = rows_told (begun turn).pre turn.before.loop.invariant turn.loop-test.true c.fill-rows.ensures.answer in
-    let y = coming turn in
+    let coming : NextFile c.args.s.now c.loop-p.p c.loop-p.invariant.left = next_file c.requires c.loop-p.invariant c.loop-p-test.true in
+    let given : c.fill-rows.result ≡ (let d = coming.says in record { count = length d.payments; sums = sums_of (totals d.payments); next = c.loop-p.p + length (write d) }) = rows_told c.requires c.loop-p.invariant c.loop-p-test.true c.fill-rows.ensures.answer in
+    let y = coming in
     let e = ap (λ (z : FileRows). z.next) given in
     omega (arith, e, y.behind.inside, y.some)
 
 pub loop-p-preserved : goal.loop-p-preserved
-loop-p-preserved c =
-    let turn : In-loop = c in
-    let t = turn in medium_more (begun t).pre t.before.loop.inv t.loop-test.taken (c.fill-rows.ensures.answer, c.fill-rows.ensures.c4, c.fill-rows.ensures.c5, c.fill-rows.ensures.c12, c.fill-rows.ensures.start)
+loop-p-preserved c = medium_more c.requires c.loop-p.invariant c.loop-p-test.true (c.fill-rows.ensures.answer, (c.fill-rows.ensures.c4, (c.fill-rows.ensures.c5, (c.fill-rows.ensures.c12, c.fill-rows.ensures.start))))
 
 pub shape_of-c4 : goal.shape_of-c4
 shape_of-c4 c = c.loop-p.invariant.bank_codes_left.long

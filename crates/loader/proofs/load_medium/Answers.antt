@@ -9,8 +9,7 @@ returns-then-medium_checked-ne0 c =
 
 pub returns-then-not-columns-table : goal.returns-then-not-columns-table
 returns-then-not-columns-table c =
-    let said = rw c.refuse.ensures
-    (medium_no_room _ _ _ _ _ _ _ _ _ _ c.check_medium-medium_checked.ensures c.if-medium_checked-ne0.false (not-true _ c.if-not-columns-table.true-raw)) in record { answer = said.0; c4 = said.1.0; c5 = said.1.1.0; c12 = said.1.1.1.0; start = said.1.1.1.1.0; begin = said.1.1.1.1.1.0; count = said.1.1.1.1.1.1.0; sum5 = said.1.1.1.1.1.1.1.0; sum4 = said.1.1.1.1.1.1.1.1.0; sum12 = said.1.1.1.1.1.1.1.1.1 }
+    let said = (medium_no_room _ _ _ _ _ _ _ _ _ _ c.check_medium-medium_checked.ensures c.if-medium_checked-ne0.false (not-true _ c.if-not-columns-table.true-raw)) in record { answer = rw c.refuse.ensures said.0; c4 = rw c.refuse.ensures said.1.0; c5 = rw c.refuse.ensures said.1.1.0; c12 = rw c.refuse.ensures said.1.1.1.0; start = rw c.refuse.ensures said.1.1.1.1.0; begin = rw c.refuse.ensures said.1.1.1.1.1.0; count = rw c.refuse.ensures said.1.1.1.1.1.1.0; sum5 = rw c.refuse.ensures said.1.1.1.1.1.1.1.0; sum4 = rw c.refuse.ensures said.1.1.1.1.1.1.1.1.0; sum12 = rw c.refuse.ensures said.1.1.1.1.1.1.1.1.1 }
 
 pub fill_medium-requires : goal.fill_medium-requires
 fill_medium-requires c =
@@ -20,4 +19,4 @@ fill_medium-requires c =
 
 pub returns : goal.returns
 returns c =
-    let said = medium_full _ _ _ _ _ _ _ _ _ _ c.check_medium-medium_checked.ensures c.if-medium_checked-ne0.false (not-false _ c.if-not-columns-table.false-raw) (c.fill_medium.ensures.c4, c.fill_medium.ensures.c5, c.fill_medium.ensures.c12, c.fill_medium.ensures.start, c.fill_medium.ensures.begin, c.fill_medium.ensures.count, c.fill_medium.ensures.sum5, c.fill_medium.ensures.sum4, c.fill_medium.ensures.sum12) in record { answer = said.0; c4 = said.1.0; c5 = said.1.1.0; c12 = said.1.1.1.0; start = said.1.1.1.1.0; begin = said.1.1.1.1.1.0; count = said.1.1.1.1.1.1.0; sum5 = said.1.1.1.1.1.1.1.0; sum4 = said.1.1.1.1.1.1.1.1.0; sum12 = said.1.1.1.1.1.1.1.1.1 }
+    let said = medium_full _ _ _ _ _ _ _ _ _ _ c.check_medium-medium_checked.ensures c.if-medium_checked-ne0.false (not-false _ c.if-not-columns-table.false-raw) (c.fill_medium.ensures.c4, (c.fill_medium.ensures.c5, (c.fill_medium.ensures.c12, (c.fill_medium.ensures.start, (c.fill_medium.ensures.begin, (c.fill_medium.ensures.count, (c.fill_medium.ensures.sum5, (c.fill_medium.ensures.sum4, c.fill_medium.ensures.sum12)))))))) in record { answer = said.0; c4 = said.1.0; c5 = said.1.1.0; c12 = said.1.1.1.0; start = said.1.1.1.1.0; begin = said.1.1.1.1.1.0; count = said.1.1.1.1.1.1.0; sum5 = said.1.1.1.1.1.1.1.0; sum4 = said.1.1.1.1.1.1.1.1.0; sum12 = said.1.1.1.1.1.1.1.1.1 }
