@@ -49,5 +49,6 @@ module _ {f : List ℕ} {start row p : ℕ} (w : Passing f (Sought start (paymen
   pub begun_here : row < length (payments_of (answer f)) → p ≡ start → true ≡ found (begun_at start (payments_of (answer f)))
   begun_here h e = let x = next w h in sym (ap found (x.kept ∙ begun_first start p x.payment x.others e))
 
-  pub none_begun : length (payments_of (answer f)) ≤ row → false ≡ found (begun_at start (payments_of (answer f)))
-  none_begun h = sym (ap found (w.kept ∙ ap (begun_from start p) (none_left w h)))
+pub none_begun : {f : List ℕ} (start : ℕ) {row p : ℕ} → Passing f (Sought start (payments_of (answer f))) row p → length (payments_of (answer f)) ≤ row
+    → false ≡ found (begun_at start (payments_of (answer f)))
+none_begun start {p = p} w h = sym (ap found (w.kept ∙ ap (begun_from start p) (none_left w h)))

@@ -26,7 +26,7 @@ stand_at : {f : List ℕ} {p q : ℕ} {fields : List (List ℕ)} → Stand f p f
 stand_at {f} {fields = fields} s e = subst (λ q. Stand f q fields) e s
 
 -- the fields behind the first k, which take n bytes
-behind_fields : {f : List ℕ} {p n : ℕ} (k : ℕ) (fields : List (List ℕ)) → Stand f p fields → length (in_turn (take k fields)) ≡ n
+behind_fields : {f : List ℕ} (k : ℕ) {p n : ℕ} (fields : List (List ℕ)) → Stand f p fields → length (in_turn (take k fields)) ≡ n
     → Stand f (p + n) (drop k fields)
 behind_fields zero fields s e = stand_at s (omega arith)
 behind_fields (suc k) [] s e = stand_at s (omega arith)

@@ -1,0 +1,31 @@
+-- finder::text_place meets its contract: the three fields, and behind the mark of a part.
+-- the part is one of fifteen
+use Prim.Native.Nat.{◌+◌, ◌-◌, ◌≤◌}
+use native.Mathlib.Omega.{arith}
+use mathlib.Core.Path.{sym, ap, subst, ◌∙◌}
+use Rattle.document.specs.Marks.{most_parts}
+use Rattle.layout.specs.Widths as width
+use Rattle.layout.proofs.CellLaws.{mark_below}
+use Rattle.finder.specs.Texts.{place_of}
+use Rattle.finder.specs.Seeking.{has_text}
+use Rattle.finder.proofs.PlaceLaws.{part_bounds, mark_place_lem}
+use Rattle.finder.proofs.text_place.Goals as goal
+
+pub overflow_sub-i : goal.overflow_sub-i
+overflow_sub-i c =
+    let bounds : let i = c.in-Part.i in (1 ≤ i) × (i ≤ most_parts) = part_bounds (ap (λ w. has_text w most_parts) (sym c.in-Part.is) ∙ c.requires) in
+    bounds.0
+
+pub overflow_add-result : goal.overflow_add-result
+overflow_add-result c =
+    let bounds : let i = c.in-Part.i in (1 ≤ i) × (i ≤ most_parts) = part_bounds (ap (λ w. has_text w most_parts) (sym c.in-Part.is) ∙ c.requires) in
+    let b = bounds in
+    let h = subst (λ n. n ≤ 768) (sym c.mark_at.ensures) (mark_below (c.in-Part.i - 1) (omega arith)) in
+    omega arith
+
+pub returns-in-Part : goal.returns-in-Part
+returns-in-Part c =
+    let bounds : let i = c.in-Part.i in (1 ≤ i) × (i ≤ most_parts) = part_bounds (ap (λ w. has_text w most_parts) (sym c.in-Part.is) ∙ c.requires) in
+    let w = c.in-Part in
+    let b = bounds in
+    ap (λ n. n + width.mark) (c.mark_at.ensures ∙ mark_place_lem w.i b.0 b.1) ∙ sym (ap place_of w.is)
