@@ -1,5 +1,5 @@
-// The library for C: each call on numbers and lent slices alone. A slice is a pointer and then the number of its entries. What a call finds
-// it tells in a lent slice of numbers, the result; the number that it returns is the result's first, or 16 where the result is too short.
+// The calls as C makes them, which crates/dtaus_c exports: each on numbers and lent slices alone. What a call finds it tells in a lent slice of
+// numbers, the result; the number that it returns is the result's first, or 16 where the result is too short.
 #![tactic(auto)]
 
 ghost use Rattle.std.specs.Prelude.{◌≡◌, ◌≤◌, [], ◌∷◌, length};
@@ -94,16 +94,14 @@ fn text_named(wanted: usize) -> Wanted
 const VERSION: u32 = 4;
 
 // The version of the header that belongs to the archive.
-#[unsafe(no_mangle)]
-pub extern "C" fn dtaus_version() -> u32
+pub fn dtaus_version() -> u32
     ensures { result ≡ version }
 {
     VERSION
 }
 
 // Checks a file.
-#[unsafe(no_mangle)]
-pub extern "C" fn dtaus_check(file: &[u8], res: &mut [u64]) -> u8
+pub fn dtaus_check(file: &[u8], res: &mut [u64]) -> u8
     ensures number { result ≡ (checking res.old file.now).verdict.number }
     ensures res { res.new ≡ told (outcome_figures (checking res.old file.now)) res.old }
 {
@@ -116,8 +114,7 @@ pub extern "C" fn dtaus_check(file: &[u8], res: &mut [u64]) -> u8
 }
 
 // Loads the payments of a file into four columns: C4, C5, C12, and the byte where the payment begins.
-#[unsafe(no_mangle)]
-pub extern "C" fn dtaus_load(
+pub fn dtaus_load(
     file: &[u8],
     c4: &mut [u64],
     c5: &mut [u64],
@@ -141,8 +138,7 @@ pub extern "C" fn dtaus_load(
 }
 
 // Checks a medium: one file or more end to end.
-#[unsafe(no_mangle)]
-pub extern "C" fn dtaus_check_medium(medium: &[u8], res: &mut [u64]) -> u8
+pub fn dtaus_check_medium(medium: &[u8], res: &mut [u64]) -> u8
     ensures number { result ≡ (checking_medium res.old medium.now).verdict.number }
     ensures res { res.new ≡ told (medium_figures (checking_medium res.old medium.now)) res.old }
 {
@@ -156,8 +152,7 @@ pub extern "C" fn dtaus_check_medium(medium: &[u8], res: &mut [u64]) -> u8
 
 // Loads the payments of all files of a medium into four columns, as `dtaus_load` does, and the files into the five columns of a table: the byte where
 // the file begins, its count, and its sums of C5, C4 and C12.
-#[unsafe(no_mangle)]
-pub extern "C" fn dtaus_load_medium(
+pub fn dtaus_load_medium(
     medium: &[u8],
     c4: &mut [u64],
     c5: &mut [u64],
@@ -193,8 +188,7 @@ pub extern "C" fn dtaus_load_medium(
 }
 
 // Lists a file into a lent output.
-#[unsafe(no_mangle)]
-pub extern "C" fn dtaus_list(file: &[u8], output: &mut [u8], res: &mut [u64]) -> u8
+pub fn dtaus_list(file: &[u8], output: &mut [u8], res: &mut [u64]) -> u8
     ensures number { result ≡ (written_of (listing_with (length output.old) res.old file.now)).verdict.number }
     ensures output { output.new ≡ filled (written (listing_with (length output.old) res.old file.now)) output.old }
     ensures res { res.new ≡ told (written_figures (written_of (listing_with (length output.old) res.old file.now))) res.old }
@@ -208,8 +202,7 @@ pub extern "C" fn dtaus_list(file: &[u8], output: &mut [u8], res: &mut [u64]) ->
 }
 
 // Composes the file of a listing into a lent output.
-#[unsafe(no_mangle)]
-pub extern "C" fn dtaus_compose(listing: &[u8], output: &mut [u8], res: &mut [u64]) -> u8
+pub fn dtaus_compose(listing: &[u8], output: &mut [u8], res: &mut [u64]) -> u8
     ensures number { result ≡ (written_of (composing_with (length output.old) res.old listing.now)).verdict.number }
     ensures output { output.new ≡ filled (written (composing_with (length output.old) res.old listing.now)) output.old }
     ensures res { res.new ≡ told (written_figures (written_of (composing_with (length output.old) res.old listing.now))) res.old }
@@ -223,8 +216,7 @@ pub extern "C" fn dtaus_compose(listing: &[u8], output: &mut [u8], res: &mut [u6
 }
 
 // Finds payment n of a file, from 0.
-#[unsafe(no_mangle)]
-pub extern "C" fn dtaus_find(file: &[u8], n: usize, res: &mut [u64]) -> u8
+pub fn dtaus_find(file: &[u8], n: usize, res: &mut [u64]) -> u8
     ensures number { result ≡ (finding_with res.old file.now n).verdict.number }
     ensures res { res.new ≡ told (spot_figures (finding_with res.old file.now n)) res.old }
 {
@@ -237,8 +229,7 @@ pub extern "C" fn dtaus_find(file: &[u8], n: usize, res: &mut [u64]) -> u8
 }
 
 // Finds a text of the payment that begins at start.
-#[unsafe(no_mangle)]
-pub extern "C" fn dtaus_text(file: &[u8], start: usize, wanted: usize, res: &mut [u64]) -> u8
+pub fn dtaus_text(file: &[u8], start: usize, wanted: usize, res: &mut [u64]) -> u8
     ensures number { result ≡ (locating_with res.old file.now start wanted).verdict.number }
     ensures res { res.new ≡ told (spot_figures (locating_with res.old file.now start wanted)) res.old }
 {

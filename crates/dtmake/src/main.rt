@@ -1,20 +1,35 @@
 // Reads a listing on standard input and prints the file composed from it, or its refusal: number, tab, place.
 #![tactic(auto)]
 
-ghost use Rattle.std.specs.Prelude.{◌≡◌};
+ghost use Rattle.std.specs.Prelude.{◌≡◌, take, IfSome, OnOk};
+ghost use Rattle.std.specs.Io.KnownBytes.{Appends};
 ghost use Rattle.reply.specs.Reply.{make_reply};
 
-// No contract can say which bytes a call of C writes. That the reply to what was read is handed to it is said here.
-fn print(input: &[u8], reply: &[u8])
+use std::io;
+use std::io::{Read, Write};
+
+// The bytes of the input and of the output: of a longer input no more are read.
+const ROOM: usize = 65536;
+
+// No contract can say which bytes reach standard output. That the reply to what was read is handed to the writer is said here.
+fn print<W: Write>(writer: &mut W, input: &[u8], reply: &[u8]) -> io::Result<()>
     requires { reply.now ≡ make_reply 65536 input.now }
+    ensures { OnOk result (Appends (W.contents writer.old) (W.contents writer.new) (make_reply 65536 input.now)) }
 {
-    io::write_all(libc::STDOUT_FILENO, reply);
+    writer.write_all(reply)
 }
 
-fn main() {
-    let mut input = io::large_buffer();
-    let n = io::read_full(libc::STDIN_FILENO, &mut input);
-    let mut out = io::large_buffer();
+// Prints the reply to what the reader gives.
+fn serve<R: Read, W: Write>(reader: &mut R, writer: &mut W) -> io::Result<()>
+    ensures { OnOk result (IfSome (R.remaining reader.old) (λ input. Appends (W.contents writer.old) (W.contents writer.new) (make_reply 65536 (take 65536 input)))) }
+{
+    let mut input = [0u8; ROOM];
+    let n = reading::read_full(reader, &mut input)?;
+    let mut out = [0u8; ROOM];
     let length = reply::make(&input[..n], &mut out);
-    print(&input[..n], &out[..length]);
+    print(writer, &input[..n], &out[..length])
+}
+
+fn main(rt: HostRuntime) -> io::Result<()> {
+    serve(&mut rt.stdin(), &mut rt.stdout())
 }

@@ -3,57 +3,84 @@
 #![tactic(auto)]
 
 use crate::requests::HEAD;
-use libc::{STDIN_FILENO, STDOUT_FILENO};
+use std::io;
+use std::io::{BufReader, BufWriter, Read, Write};
 
 mod answers;
 mod printing;
 mod requests;
 
+// The most bytes of an input, and of a lent output.
+const ROOM: usize = 65536;
+
 // Reads the input that the head line announces and makes the call on it. Answers whether the request was whole and within its limits.
-fn answer(head: &[u8; HEAD], input: &mut [u8], out: &mut [u8]) -> bool {
+fn answer<R: Read, W: Write>(
+    reader: &mut R,
+    writer: &mut W,
+    head: &[u8; HEAD],
+    input: &mut [u8],
+    out: &mut [u8],
+) -> io::Result<bool> {
     if !requests::has_numbers(head) {
-        return false;
+        return Ok(false);
     }
     let size = requests::head_number(head, 0);
-    let n = requests::read_bytes(input, size);
+    let n = requests::read_bytes(reader, input, size)?;
     if n != size {
-        return false;
+        return Ok(false);
     }
-    answers::call(head, &input[..n], out)
+    answers::call(reader, writer, head, &input[..n], out)
 }
 
 // Says that a request is none, and answers that there is no going on.
-fn refuse_request() -> bool {
-    io::write_all(STDOUT_FILENO, b"bad request\n");
-    false
+fn refuse_request<W: Write>(writer: &mut W) -> io::Result<bool> {
+    writer.write_all(b"bad request\n")?;
+    Ok(false)
 }
 
 // Answers one request, and tells whether to go on.
-fn serve(input: &mut [u8], out: &mut [u8]) -> bool {
+fn serve<R: Read, W: Write>(
+    reader: &mut R,
+    writer: &mut W,
+    input: &mut [u8],
+    out: &mut [u8],
+) -> io::Result<bool> {
     let mut head = [0u8; HEAD];
-    let n = io::read_full(STDIN_FILENO, &mut head);
+    let n = reading::read_full(reader, &mut head)?;
     if n == 0 {
-        return false;
+        return Ok(false);
     }
     if n != HEAD {
-        return refuse_request();
+        return refuse_request(writer);
     }
-    if !answer(&head, input, out) {
-        return refuse_request();
+    if !answer(reader, writer, &head, input, out)? {
+        return refuse_request(writer);
     }
-    true
+    Ok(true)
 }
 
-// A proved loop has to end, and nothing says that the requests do. So it counts its turns down, from a number that no run uses up.
-fn serve_all(input: &mut [u8], out: &mut [u8]) {
-    let mut turns = u64::MAX;
-    while turns > 0 && serve(input, out) {
-        turns -= 1;
+// A proved loop has to end, and nothing says that the requests do. So it counts its turns, up to a number that no run comes to. What is asked
+// next may rest on an answer: each is out before the next request is read.
+fn serve_all<R: Read, W: Write>(
+    reader: &mut R,
+    writer: &mut W,
+    input: &mut [u8],
+    out: &mut [u8],
+) -> io::Result<()> {
+    for _ in 0..u64::MAX {
+        let goes_on = serve(reader, writer, input, out)?;
+        writer.flush()?;
+        if !goes_on {
+            break;
+        }
     }
+    Ok(())
 }
 
-fn main() {
-    let mut input = io::large_buffer();
-    let mut out = io::large_buffer();
-    serve_all(&mut input, &mut out);
+fn main(rt: HostRuntime) -> io::Result<()> {
+    let mut input = [0u8; ROOM];
+    let mut out = [0u8; ROOM];
+    let mut reader = BufReader::new(rt.alloc(), rt.stdin())?;
+    let mut writer = BufWriter::new(rt.alloc(), rt.stdout())?;
+    serve_all(&mut reader, &mut writer, &mut input, &mut out)
 }

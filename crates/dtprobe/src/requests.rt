@@ -1,9 +1,11 @@
 // Reading a request: the numbers of its head line, and the content of the slices that it lends.
-ghost use Rattle.io.specs.Counts.{IsPrefixLen};
+ghost use Rattle.std.specs.Prelude.{◌≤◌, IfOk};
+ghost use Rattle.std.specs.Io.{ReadsAtMost};
 
 use fields::Number;
 use finder::Wanted;
-use libc::STDIN_FILENO;
+use std::io;
+use std::io::Read;
 
 // The bytes of a head line.
 pub(crate) const HEAD: usize = 86;
@@ -40,14 +42,7 @@ pub(crate) fn head_number(head: &[u8; HEAD], i: usize) -> usize {
 
 // Whether the head line has all its numbers.
 pub(crate) fn has_numbers(head: &[u8; HEAD]) -> bool {
-    let mut i = 0;
-    while i < NUMBERS {
-        if head_number(head, i) == NO_NUMBER {
-            return false;
-        }
-        i += 1;
-    }
-    true
+    (0..NUMBERS).all(|i| head_number(head, i) != NO_NUMBER)
 }
 
 // Number i of a head line that is no length: the largest there is stands for the largest of all.
@@ -75,13 +70,14 @@ pub(crate) fn wanted(head: &[u8; HEAD]) -> Wanted {
 }
 
 // Reads the next n bytes to the start of buf, and answers how many it has read: fewer than n where buf has no room for them or the input ends.
-pub(crate) fn read_bytes(buf: &mut [u8], n: usize) -> usize
-    ensures { IsPrefixLen result buf.new }
+pub(crate) fn read_bytes<R: Read>(reader: &mut R, buf: &mut [u8], n: usize) -> io::Result<usize>
+    ensures in_buf { ReadsAtMost result buf.new }
+    ensures no_more { IfOk result (λ count. count ≤ n) }
 {
     if n > buf.len() {
-        return 0;
+        return Ok(0);
     }
-    io::read_full(STDIN_FILENO, &mut buf[..n])
+    reading::read_full(reader, &mut buf[..n])
 }
 
 // The number that a row tells, or 0 where its bytes are no digits.
@@ -93,23 +89,30 @@ fn row_of(digits: &[u8; ROW]) -> u64 {
     row
 }
 
+// Reads the next row; None where the input ends within it.
+fn read_row<R: Read>(reader: &mut R) -> io::Result<Option<u64>> {
+    let mut digits = [0u8; ROW];
+    let got = reading::read_full(reader, &mut digits)?;
+    if got != ROW {
+        return Ok(None);
+    }
+    Ok(Some(row_of(&digits)))
+}
+
 // Reads the next n rows to the start of a column, and answers how many it has read: fewer than n where the column has no room for them or the
 // input ends.
-pub(crate) fn read_rows(column: &mut [u64], n: usize) -> usize
-    ensures { IsPrefixLen result column.new }
+pub(crate) fn read_rows<R: Read>(reader: &mut R, column: &mut [u64], n: usize) -> io::Result<usize>
+    ensures in_column { ReadsAtMost result column.new }
+    ensures no_more { IfOk result (λ count. count ≤ n) }
 {
     if n > column.len() {
-        return 0;
+        return Ok(0);
     }
-    let mut i = 0;
-    while i < n {
-        let mut digits = [0u8; ROW];
-        let got = io::read_full(STDIN_FILENO, &mut digits);
-        if got != ROW {
-            return i;
-        }
-        column[i] = row_of(&digits);
-        i += 1;
+    for i in 0..n {
+        let Some(row) = read_row(reader)? else {
+            return Ok(i);
+        };
+        column[i] = row;
     }
-    n
+    Ok(n)
 }
