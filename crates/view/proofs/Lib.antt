@@ -1,5 +1,3 @@
-pub mod Walking
-pub mod Calls
 pub mod MakeAndHand
 pub mod OneAnswer
 pub mod Promises

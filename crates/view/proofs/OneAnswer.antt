@@ -4,7 +4,7 @@ use mathlib.Core.Path.{◌≡◌, sym, ◌∙◌}
 use Prim.Native.Nat.{ℕ}
 use mathlib.Core.List.{List}
 use mir.Syntax.{w64}
-use mir.Val.{vint, vstruct, vcons, vnil}
+use mir.Val.{Val, vint, vstruct, vcons, vnil}
 use lib.ListN.{length}
 use denote.Ref.{Bor}
 use denote.Slice.{slice_val}
@@ -16,7 +16,10 @@ use Rattle.view.specs.declared.Made.{Made}
 use Rattle.view.specs.declared.Handed.{Handed}
 use Rattle.view.proofs.Made.TheLaws as N'
 use Rattle.view.proofs.Handed.TheLaws as H''
-use Rattle.view.proofs.Calls.{slice}
+
+-- the machine value of a slice
+abbrev pub slice : Bor (List ℕ) → Val
+slice x = slice_val x.ref_ptr (length x.now)
 
 one_slice : {block offset : ℕ} {bytes : List ℕ} (x y : Bor (List ℕ)) → (x.now ≡ bytes) × (x.ref_ptr.0 ≡ block) × (x.ref_ptr.1 ≡ offset) → (y.now ≡ bytes) × (y.ref_ptr.0 ≡ block) × (y.ref_ptr.1 ≡ offset) → slice x ≡ slice y
 one_slice x y e f = λ j. slice_val ((e.1 ∙ sym f.1) j, (e.2 ∙ sym f.2) j) (length ((e.0 ∙ sym f.0) j))

@@ -146,8 +146,8 @@ module _ (s : Bor (List ℕ)) (x : Acceptable s.now) (n : ℕ) (p : Payment) (is
   pub record ViewIs (m : Made) : Type 0 where
     pub verdict : m.verdict ≡ accepting
     pub bytes : m.view.file.now ≡ s.now
-    pub memory : m.view.file.ptr.0 ≡ s.ptr.0
-    pub offset : m.view.file.ptr.1 ≡ s.ptr.1
+    pub memory : m.view.file.ref_ptr.0 ≡ s.ref_ptr.0
+    pub offset : m.view.file.ref_ptr.1 ≡ s.ref_ptr.1
     pub begins : m.view.start ≡ start
 
   pub view_is : (m : Made) → IsMade s (find_at s.now n) m → ViewIs m
@@ -171,8 +171,8 @@ module _ (s : Bor (List ℕ)) (x : Acceptable s.now) (n : ℕ) (p : Payment) (is
   -- r is the text t: its bytes, as that stretch of the file itself
   pub record TextIs (w : Wanted) (t : List ℕ) (r : Bor (List ℕ)) : Type 0 where
     pub bytes : r.now ≡ t
-    pub memory : r.ref_ptr.0 ≡ s.ptr.0
-    pub offset : r.ref_ptr.1 ≡ s.ptr.1 + (start + place_of w)
+    pub memory : r.ref_ptr.0 ≡ s.ref_ptr.0
+    pub offset : r.ref_ptr.1 ≡ s.ref_ptr.1 + (start + place_of w)
 
   module _ (w : Wanted) (t : List ℕ) (has : text_of w p ≡ some t) where
     cut : take (start + place_of w + text_width - (start + place_of w)) (drop (start + place_of w) s.now) ≡ t
@@ -196,7 +196,7 @@ module _ (s : Bor (List ℕ)) (x : Acceptable s.now) (n : ℕ) (p : Payment) (is
     text_is r e =
         let p = spot_is in
         let bytes = e.0 ∙ ap (λ (z : Spot). take (z.to - z.from) (drop z.from s.now)) p ∙ cut in
-        record { bytes = bytes; memory = e.1; offset = e.2 ∙ ap (λ (z : Spot). s.ptr.1 + z.from) p }
+        record { bytes = bytes; memory = e.1; offset = e.2 ∙ ap (λ (z : Spot). s.ref_ptr.1 + z.from) p }
 
     pub not_refused : verdict_for s.now n w ≡ accepting
     unfolding first_of

@@ -81,11 +81,11 @@ pub fn verdict_of(file: &[u8], n: usize, w: Wanted) -> Verdict
 {
     let made = make(file, n);
     let handed = hand(made.view, w);
-    first_of_lem(made.verdict, handed.verdict)
+    first_of(made.verdict, handed.verdict)
 }
 
 // The first refusal of two.
-fn first_of_lem(a: Verdict, b: Verdict) -> Verdict
+fn first_of(a: Verdict, b: Verdict) -> Verdict
     ensures { result ≡ first_of a b }
 {
     if a.number == 0 {
