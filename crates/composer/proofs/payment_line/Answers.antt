@@ -87,7 +87,7 @@ returns-in_default c =
     let behind : List ℕ = drop c.bytes_of-bytes.result c.args.space.now in
     let laid-long : length laid ≡ c.bytes_of-bytes.result = c.lay_payment.auto.out ∙ length-take-le _ _ within in
     let answer : List ℕ → PaymentRead = λ f. let a = c.args in of_read (payments_on a.sums) (read_at (whole_payment (letters_of a.kind) (totals_of a.count a.sums)) f 0) in
-    let read : c.payment_record-c.result ≡ answer (lay (record_c c.parts_of-k.result) (behind_letter (split tab c.args.x.now))) =  c.payment_record-c.ensures ∙ ap answer (take_at laid behind _ laid-long ∙ c.lay_payment.ensures) in
+    let read : c.payment_record-c.result ≡ answer (lay (record_c c.parts_of-k.result) (behind_letter (split tab c.args.x.now))) = c.payment_record-c.ensures ∙ ap answer (take_at laid behind _ laid-long ∙ c.lay_payment.ensures) in
     payment_refuses _ _ _ _ _ parts formed.1.1 read c.in_default.is
     c.why.ensures c.refused_in.ensures
 
@@ -101,5 +101,5 @@ returns c =
     let behind : List ℕ = drop c.bytes_of-bytes.result c.args.space.now in
     let laid-long : length laid ≡ c.bytes_of-bytes.result = c.lay_payment.auto.out ∙ length-take-le _ _ within in
     let answer : List ℕ → PaymentRead = λ f. let a = c.args in of_read (payments_on a.sums) (read_at (whole_payment (letters_of a.kind) (totals_of a.count a.sums)) f 0) in
-    let read : c.payment_record-c.result ≡ answer (lay (record_c c.parts_of-k.result) (behind_letter (split tab c.args.x.now))) =  c.payment_record-c.ensures ∙ ap answer (take_at laid behind _ laid-long ∙ c.lay_payment.ensures) in
+    let read : c.payment_record-c.result ≡ answer (lay (record_c c.parts_of-k.result) (behind_letter (split tab c.args.x.now))) = c.payment_record-c.ensures ∙ ap answer (take_at laid behind _ laid-long ∙ c.lay_payment.ensures) in
     payment_accepts _ _ _ _ _ parts formed.1.1 read c.in-Is.is c.bytes_of-bytes.ensures

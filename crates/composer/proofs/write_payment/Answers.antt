@@ -45,7 +45,10 @@ returns c =
     let parts : c.parts_of-k.result ≡ lines_parts c.args.x.now = c.parts_of-k.ensures ∙ ap parts_of c.requires.1.0 in
     let size : c.bytes_of.result ≡ 128 * section (lines_parts c.args.x.now) = bytes_told _ parts c.bytes_of.ensures in
     let room : c.args.at + c.bytes_of.result ≤ length c.args.out.now = let e = size in let h = c.requires.1.1 in omega arith in
-    record { place = ap (λ n. c.args.at + n) size; out = part_over c.args.at c.bytes_of.result
+    record {
+      place = ap (λ n. c.args.at + n) size;
+      out = part_over c.args.at c.bytes_of.result
           c.lay_payment.new.out c.args.out.now (c.lay_payment.auto.out ∙ part_long _ _ _ room) ∙ ap
           (λ f. over c.args.at f c.args.out.now)
-          (c.lay_payment.ensures ∙ ap (λ k. lay (record_c k) (behind_letter (split tab c.args.x.now))) parts) }
+          (c.lay_payment.ensures ∙ ap (λ k. lay (record_c k) (behind_letter (split tab c.args.x.now))) parts);
+    }

@@ -44,28 +44,28 @@ returns-then-not-has_text c =
 pub text_place-requires : goal.text_place-requires
 text_place-requires c =
     let begun : let a = c.args in found (begun_at a.start (payments_of (answer a.s.now))) ≡ true = sym c.begins.ensures ∙ not-false _ c.if-not-begins.false-raw in
-    let has_it :  let a = c.args in has_text a.w c.count_at-k.result ≡ true = sym c.has_text.ensures ∙ not-false _ c.if-not-has_text.false-raw in
-    let longest : has_text c.args.w most_parts ≡ true =  let a = c.args in let h = few a.s.now c.check-checked.ensures c.if-checked-ne0.false a.start a.w begun c.count_at-k.ensures in longest_has a.w c.count_at-k.result h has_it in
+    let has_it : let a = c.args in has_text a.w c.count_at-k.result ≡ true = sym c.has_text.ensures ∙ not-false _ c.if-not-has_text.false-raw in
+    let longest : has_text c.args.w most_parts ≡ true = let a = c.args in let h = few a.s.now c.check-checked.ensures c.if-checked-ne0.false a.start a.w begun c.count_at-k.ensures in longest_has a.w c.count_at-k.result h has_it in
     longest
 
 pub overflow_add-from : goal.overflow_add-from
 overflow_add-from c =
     let begun : let a = c.args in found (begun_at a.start (payments_of (answer a.s.now))) ≡ true = sym c.begins.ensures ∙ not-false _ c.if-not-begins.false-raw in
-    let has_it :  let a = c.args in has_text a.w c.count_at-k.result ≡ true = sym c.has_text.ensures ∙ not-false _ c.if-not-has_text.false-raw in
-    let ends : let a = c.args in a.start + c.text_place.result + text_width ≤ length a.s.now =  let a = c.args in let h = text_ends a.s.now c.check-checked.ensures c.if-checked-ne0.false a.start a.w begun c.count_at-k.ensures has_it in subst (λ n. a.start + n + text_width ≤ length a.s.now) (sym c.text_place.ensures) h in
+    let has_it : let a = c.args in has_text a.w c.count_at-k.result ≡ true = sym c.has_text.ensures ∙ not-false _ c.if-not-has_text.false-raw in
+    let ends : let a = c.args in a.start + c.text_place.result + text_width ≤ length a.s.now = let a = c.args in let h = text_ends a.s.now c.check-checked.ensures c.if-checked-ne0.false a.start a.w begun c.count_at-k.ensures has_it in subst (λ n. a.start + n + text_width ≤ length a.s.now) (sym c.text_place.ensures) h in
     omega (arith, ends)
 
 pub overflow_add-result : goal.overflow_add-result
 overflow_add-result c =
     let begun : let a = c.args in found (begun_at a.start (payments_of (answer a.s.now))) ≡ true = sym c.begins.ensures ∙ not-false _ c.if-not-begins.false-raw in
-    let has_it :  let a = c.args in has_text a.w c.count_at-k.result ≡ true = sym c.has_text.ensures ∙ not-false _ c.if-not-has_text.false-raw in
-    let ends : let a = c.args in a.start + c.text_place.result + text_width ≤ length a.s.now =  let a = c.args in let h = text_ends a.s.now c.check-checked.ensures c.if-checked-ne0.false a.start a.w begun c.count_at-k.ensures has_it in subst (λ n. a.start + n + text_width ≤ length a.s.now) (sym c.text_place.ensures) h in
+    let has_it : let a = c.args in has_text a.w c.count_at-k.result ≡ true = sym c.has_text.ensures ∙ not-false _ c.if-not-has_text.false-raw in
+    let ends : let a = c.args in a.start + c.text_place.result + text_width ≤ length a.s.now = let a = c.args in let h = text_ends a.s.now c.check-checked.ensures c.if-checked-ne0.false a.start a.w begun c.count_at-k.ensures has_it in subst (λ n. a.start + n + text_width ≤ length a.s.now) (sym c.text_place.ensures) h in
     omega (arith, ends)
 
 pub returns : goal.returns
 returns c =
     let begun : let a = c.args in found (begun_at a.start (payments_of (answer a.s.now))) ≡ true = sym c.begins.ensures ∙ not-false _ c.if-not-begins.false-raw in
-    let has_it :  let a = c.args in has_text a.w c.count_at-k.result ≡ true = sym c.has_text.ensures ∙ not-false _ c.if-not-has_text.false-raw in
+    let has_it : let a = c.args in has_text a.w c.count_at-k.result ≡ true = sym c.has_text.ensures ∙ not-false _ c.if-not-has_text.false-raw in
     let a = c.args in
     ap (λ n. standing (a.start + n) (a.start + n + text_width)) c.text_place.ensures
     ∙ locate_text a.s.now c.check-checked.ensures c.if-checked-ne0.false a.start a.w begun c.count_at-k.ensures has_it

@@ -37,10 +37,10 @@ returns-in_default-parts c =
 
 pub overflow_add-next : goal.overflow_add-next
 overflow_add-next c =
-    let seen : let a = c.args in Seen a.l.now a.p (letters_of a.kind) a.count a.sums c.in-Are.new_sums c.in-Are-parts.k c.in-Are-parts.e = record { may = c.if-count-ge-MOST_PAYMENTS.false; numbers = numbers_is c.numbers_at-numbers.ensures c.in-Are.is; behind_texts = c.in-To.first; texts = subst (Names _ _) c.in-To.is c.names_at-names.ensures; parts = subst (AllParts _ _) c.in-Are-parts.is c.parts_from-parts.ensures; } in
+    let seen : let a = c.args in Seen a.l.now a.p (letters_of a.kind) a.count a.sums c.in-Are.new_sums c.in-Are-parts.k c.in-Are-parts.e = record { may = c.if-count-ge-MOST_PAYMENTS.false; numbers = numbers_is c.numbers_at-numbers.ensures c.in-Are.is; behind_texts = c.in-To.first; texts = subst (Names _ _) c.in-To.is c.names_at-names.ensures; parts = subst (AllParts _ _) c.in-Are-parts.is c.parts_from-parts.ensures } in
     omega (arith, end_inside seen, c.well_formed)
 
 pub returns : goal.returns
 returns c =
-    let seen : let a = c.args in Seen a.l.now a.p (letters_of a.kind) a.count a.sums c.in-Are.new_sums c.in-Are-parts.k c.in-Are-parts.e = record { may = c.if-count-ge-MOST_PAYMENTS.false; numbers = numbers_is c.numbers_at-numbers.ensures c.in-Are.is; behind_texts = c.in-To.first; texts = subst (Names _ _) c.in-To.is c.names_at-names.ensures; parts = subst (AllParts _ _) c.in-Are-parts.is c.parts_from-parts.ensures; } in
+    let seen : let a = c.args in Seen a.l.now a.p (letters_of a.kind) a.count a.sums c.in-Are.new_sums c.in-Are-parts.k c.in-Are-parts.e = record { may = c.if-count-ge-MOST_PAYMENTS.false; numbers = numbers_is c.numbers_at-numbers.ensures c.in-Are.is; behind_texts = c.in-To.first; texts = subst (Names _ _) c.in-To.is c.names_at-names.ensures; parts = subst (AllParts _ _) c.in-Are-parts.is c.parts_from-parts.ensures } in
     told_is (line_seen_lem seen c.bytes_of-bytes.ensures)

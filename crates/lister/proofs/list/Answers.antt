@@ -20,10 +20,10 @@ returns-then-not-has_room c =
 
 pub print_listing-length-requires : goal.print_listing-length-requires
 print_listing-length-requires c =
-    let room : length (listing_of c.args.s.now) ≤ length c.args.out.now =  list_room _ c.args.out.now c.check-checked.ensures c.if-checked-ne0.false c.has_room.ensures c.if-not-has_room.false-raw in
+    let room : length (listing_of c.args.s.now) ≤ length c.args.out.now = list_room _ c.args.out.now c.check-checked.ensures c.if-checked-ne0.false c.has_room.ensures c.if-not-has_room.false-raw in
     (is_accepted_lem _ c.check-checked.ensures c.if-checked-ne0.false, room)
 
 pub returns : goal.returns
 returns c =
-    let room : length (listing_of c.args.s.now) ≤ length c.args.out.now =  list_room _ c.args.out.now c.check-checked.ensures c.if-checked-ne0.false c.has_room.ensures c.if-not-has_room.false-raw in
+    let room : length (listing_of c.args.s.now) ≤ length c.args.out.now = list_room _ c.args.out.now c.check-checked.ensures c.if-checked-ne0.false c.has_room.ensures c.if-not-has_room.false-raw in
     let said = list_full _ _ c.check-checked.ensures c.if-checked-ne0.false room c.print_listing-length.ensures.length c.print_listing-length.ensures.out in record { answer = said.0; out = said.1 }

@@ -15,12 +15,12 @@ loop-row-init c = measure_start c.requires (pass_start _ _ refl) c.line_length-t
 
 pub overflow_mul-k : goal.overflow_mul-k
 overflow_mul-k c =
-    let few : c.count_at-k.result ≤ most_parts =  next_few c.loop-row.invariant.standing c.loop-row-test.true c.count_at-k.ensures in
+    let few : c.count_at-k.result ≤ most_parts = next_few c.loop-row.invariant.standing c.loop-row-test.true c.count_at-k.ensures in
     let f = few in omega arith
 
 pub overflow_add-k : goal.overflow_add-k
 overflow_add-k c =
-    let few : c.count_at-k.result ≤ most_parts =  next_few c.loop-row.invariant.standing c.loop-row-test.true c.count_at-k.ensures in
+    let few : c.count_at-k.result ≤ most_parts = next_few c.loop-row.invariant.standing c.loop-row-test.true c.count_at-k.ensures in
     let f = few in omega arith
 
 pub line_length-total-requires-in-loop-row : goal.line_length-total-requires-in-loop-row

@@ -33,20 +33,20 @@ loop-i-preserved c =
 
 pub bounds-out-at : goal.bounds-out-at
 bounds-out-at c =
-    let ended :  let a = c.args in Ended true fields_of_header_line a.s.now 0 a.out.now 0 c.loop-i.out c.loop-i.at =  line_ends true fields_of_header_line c.args.s.now 0 c.args.out.now 0 c.requires.1 c.letter.result c.letter.ensures c.loop-i-test.false c.loop-i.invariant in
+    let ended : let a = c.args in Ended true fields_of_header_line a.s.now 0 a.out.now 0 c.loop-i.out c.loop-i.at = line_ends true fields_of_header_line c.args.s.now 0 c.args.out.now 0 c.requires.1 c.letter.result c.letter.ensures c.loop-i-test.false c.loop-i.invariant in
     ended.room
 
 pub overflow_add-result : goal.overflow_add-result
 overflow_add-result c =
-    let ended :  let a = c.args in Ended true fields_of_header_line a.s.now 0 a.out.now 0 c.loop-i.out c.loop-i.at =  line_ends true fields_of_header_line c.args.s.now 0 c.args.out.now 0 c.requires.1 c.letter.result c.letter.ensures c.loop-i-test.false c.loop-i.invariant in
+    let ended : let a = c.args in Ended true fields_of_header_line a.s.now 0 a.out.now 0 c.loop-i.out c.loop-i.at = line_ends true fields_of_header_line c.args.s.now 0 c.args.out.now 0 c.requires.1 c.letter.result c.letter.ensures c.loop-i-test.false c.loop-i.invariant in
     let e = ended in omega arith
 
 pub shape_of-out : goal.shape_of-out
 shape_of-out c =
-    let ended :  let a = c.args in Ended true fields_of_header_line a.s.now 0 a.out.now 0 c.loop-i.out c.loop-i.at =  line_ends true fields_of_header_line c.args.s.now 0 c.args.out.now 0 c.requires.1 c.letter.result c.letter.ensures c.loop-i-test.false c.loop-i.invariant in
+    let ended : let a = c.args in Ended true fields_of_header_line a.s.now 0 a.out.now 0 c.loop-i.out c.loop-i.at = line_ends true fields_of_header_line c.args.s.now 0 c.args.out.now 0 c.requires.1 c.letter.result c.letter.ensures c.loop-i-test.false c.loop-i.invariant in
     rw length-set ended.long
 
 pub returns : goal.returns
 returns c =
-    let ended :  let a = c.args in Ended true fields_of_header_line a.s.now 0 a.out.now 0 c.loop-i.out c.loop-i.at =  line_ends true fields_of_header_line c.args.s.now 0 c.args.out.now 0 c.requires.1 c.letter.result c.letter.ensures c.loop-i-test.false c.loop-i.invariant in
+    let ended : let a = c.args in Ended true fields_of_header_line a.s.now 0 a.out.now 0 c.loop-i.out c.loop-i.at = line_ends true fields_of_header_line c.args.s.now 0 c.args.out.now 0 c.requires.1 c.letter.result c.letter.ensures c.loop-i-test.false c.loop-i.invariant in
     record { place = ended.place; out = ended.whole }

@@ -21,7 +21,7 @@ overflow_add-q c = let a = c.args in omega (arith, line_long false (fields_with 
 pub print_numbers-at-requires : goal.print_numbers-at-requires
 print_numbers-at-requires c =
     let lies : (i : ℕ) → i < fields_with c.args.k → FieldLies false i c.args.s.now c.args.p = λ i h. let a = c.args in (lying false (fields_with a.k) a.s.now a.p c.requires.0 i h (cell_at false i) refl).inside in
-    let lettered : let a = c.args in Going (rest_of false (fields_with a.k) a.s.now a.p) (set a.out.now a.q c.letter.result) (a.q + 1) 0 (set a.out.now a.q c.letter.result) (a.q + 1) 0 =  let a = c.args in line_start false (fields_with a.k) a.s.now a.p a.out.now a.q c.requires.2 c.letter.result c.letter.ensures in
+    let lettered : let a = c.args in Going (rest_of false (fields_with a.k) a.s.now a.p) (set a.out.now a.q c.letter.result) (a.q + 1) 0 (set a.out.now a.q c.letter.result) (a.q + 1) 0 = let a = c.args in line_start false (fields_with a.k) a.s.now a.p a.out.now a.q c.requires.2 c.letter.result c.letter.ensures in
     let a = c.args in
     let l = c.requires.0 in
     let full = first_full (fields_with a.k) a.s.now a.p l c.requires.1 in (
@@ -31,8 +31,8 @@ print_numbers-at-requires c =
 
 pub loop-i-init : goal.loop-i-init
 loop-i-init c =
-    let lettered : let a = c.args in Going (rest_of false (fields_with a.k) a.s.now a.p) (set a.out.now a.q c.letter.result) (a.q + 1) 0 (set a.out.now a.q c.letter.result) (a.q + 1) 0 =  let a = c.args in line_start false (fields_with a.k) a.s.now a.p a.out.now a.q c.requires.2 c.letter.result c.letter.ensures in
-    let numbered :  let a = c.args in Going (rest_of false (fields_with a.k) a.s.now a.p) (set a.out.now a.q c.letter.result) (a.q + 1) 0 c.print_numbers-at.new.out c.print_numbers-at.result numbers_of_payment_line =  let a = c.args in going_more lettered (numbers_at a.s.now a.p) numbers_of_payment_line (rest_numbers (fields_with a.k) a.s.now a.p c.requires.0 (omega arith)) c.print_numbers-at.ensures.place c.print_numbers-at.ensures.out in
+    let lettered : let a = c.args in Going (rest_of false (fields_with a.k) a.s.now a.p) (set a.out.now a.q c.letter.result) (a.q + 1) 0 (set a.out.now a.q c.letter.result) (a.q + 1) 0 = let a = c.args in line_start false (fields_with a.k) a.s.now a.p a.out.now a.q c.requires.2 c.letter.result c.letter.ensures in
+    let numbered : let a = c.args in Going (rest_of false (fields_with a.k) a.s.now a.p) (set a.out.now a.q c.letter.result) (a.q + 1) 0 c.print_numbers-at.new.out c.print_numbers-at.result numbers_of_payment_line = let a = c.args in going_more lettered (numbers_at a.s.now a.p) numbers_of_payment_line (rest_numbers (fields_with a.k) a.s.now a.p c.requires.0 (omega arith)) c.print_numbers-at.ensures.place c.print_numbers-at.ensures.out in
     (omega arith, going_start numbered)
 
 pub print_field-at-requires : goal.print_field-at-requires
@@ -87,28 +87,28 @@ loop-part-preserved c =
 
 pub bounds-out-at : goal.bounds-out-at
 bounds-out-at c =
-    let lettered : let a = c.args in Going (rest_of false (fields_with a.k) a.s.now a.p) (set a.out.now a.q c.letter.result) (a.q + 1) 0 (set a.out.now a.q c.letter.result) (a.q + 1) 0 =  let a = c.args in line_start false (fields_with a.k) a.s.now a.p a.out.now a.q c.requires.2 c.letter.result c.letter.ensures in
-    let numbered :  let a = c.args in Going (rest_of false (fields_with a.k) a.s.now a.p) (set a.out.now a.q c.letter.result) (a.q + 1) 0 c.print_numbers-at.new.out c.print_numbers-at.result numbers_of_payment_line =  let a = c.args in going_more lettered (numbers_at a.s.now a.p) numbers_of_payment_line (rest_numbers (fields_with a.k) a.s.now a.p c.requires.0 (omega arith)) c.print_numbers-at.ensures.place c.print_numbers-at.ensures.out in
-    let ended :  let a = c.args in Ended false (fields_with a.k) a.s.now a.p a.out.now a.q c.loop-part.out c.loop-part.at =  let a = c.args in line_ends false (fields_with a.k) a.s.now a.p a.out.now a.q c.requires.2 c.letter.result c.letter.ensures (omega arith) (going_on numbered (going_on c.loop-i.invariant.1 c.loop-part.invariant)) in
+    let lettered : let a = c.args in Going (rest_of false (fields_with a.k) a.s.now a.p) (set a.out.now a.q c.letter.result) (a.q + 1) 0 (set a.out.now a.q c.letter.result) (a.q + 1) 0 = let a = c.args in line_start false (fields_with a.k) a.s.now a.p a.out.now a.q c.requires.2 c.letter.result c.letter.ensures in
+    let numbered : let a = c.args in Going (rest_of false (fields_with a.k) a.s.now a.p) (set a.out.now a.q c.letter.result) (a.q + 1) 0 c.print_numbers-at.new.out c.print_numbers-at.result numbers_of_payment_line = let a = c.args in going_more lettered (numbers_at a.s.now a.p) numbers_of_payment_line (rest_numbers (fields_with a.k) a.s.now a.p c.requires.0 (omega arith)) c.print_numbers-at.ensures.place c.print_numbers-at.ensures.out in
+    let ended : let a = c.args in Ended false (fields_with a.k) a.s.now a.p a.out.now a.q c.loop-part.out c.loop-part.at = let a = c.args in line_ends false (fields_with a.k) a.s.now a.p a.out.now a.q c.requires.2 c.letter.result c.letter.ensures (omega arith) (going_on numbered (going_on c.loop-i.invariant.1 c.loop-part.invariant)) in
     ended.room
 
 pub overflow_add-result : goal.overflow_add-result
 overflow_add-result c =
-    let lettered : let a = c.args in Going (rest_of false (fields_with a.k) a.s.now a.p) (set a.out.now a.q c.letter.result) (a.q + 1) 0 (set a.out.now a.q c.letter.result) (a.q + 1) 0 =  let a = c.args in line_start false (fields_with a.k) a.s.now a.p a.out.now a.q c.requires.2 c.letter.result c.letter.ensures in
-    let numbered :  let a = c.args in Going (rest_of false (fields_with a.k) a.s.now a.p) (set a.out.now a.q c.letter.result) (a.q + 1) 0 c.print_numbers-at.new.out c.print_numbers-at.result numbers_of_payment_line =  let a = c.args in going_more lettered (numbers_at a.s.now a.p) numbers_of_payment_line (rest_numbers (fields_with a.k) a.s.now a.p c.requires.0 (omega arith)) c.print_numbers-at.ensures.place c.print_numbers-at.ensures.out in
-    let ended :  let a = c.args in Ended false (fields_with a.k) a.s.now a.p a.out.now a.q c.loop-part.out c.loop-part.at =  let a = c.args in line_ends false (fields_with a.k) a.s.now a.p a.out.now a.q c.requires.2 c.letter.result c.letter.ensures (omega arith) (going_on numbered (going_on c.loop-i.invariant.1 c.loop-part.invariant)) in
+    let lettered : let a = c.args in Going (rest_of false (fields_with a.k) a.s.now a.p) (set a.out.now a.q c.letter.result) (a.q + 1) 0 (set a.out.now a.q c.letter.result) (a.q + 1) 0 = let a = c.args in line_start false (fields_with a.k) a.s.now a.p a.out.now a.q c.requires.2 c.letter.result c.letter.ensures in
+    let numbered : let a = c.args in Going (rest_of false (fields_with a.k) a.s.now a.p) (set a.out.now a.q c.letter.result) (a.q + 1) 0 c.print_numbers-at.new.out c.print_numbers-at.result numbers_of_payment_line = let a = c.args in going_more lettered (numbers_at a.s.now a.p) numbers_of_payment_line (rest_numbers (fields_with a.k) a.s.now a.p c.requires.0 (omega arith)) c.print_numbers-at.ensures.place c.print_numbers-at.ensures.out in
+    let ended : let a = c.args in Ended false (fields_with a.k) a.s.now a.p a.out.now a.q c.loop-part.out c.loop-part.at = let a = c.args in line_ends false (fields_with a.k) a.s.now a.p a.out.now a.q c.requires.2 c.letter.result c.letter.ensures (omega arith) (going_on numbered (going_on c.loop-i.invariant.1 c.loop-part.invariant)) in
     let e = ended in omega arith
 
 pub shape_of-out : goal.shape_of-out
 shape_of-out c =
-    let lettered : let a = c.args in Going (rest_of false (fields_with a.k) a.s.now a.p) (set a.out.now a.q c.letter.result) (a.q + 1) 0 (set a.out.now a.q c.letter.result) (a.q + 1) 0 =  let a = c.args in line_start false (fields_with a.k) a.s.now a.p a.out.now a.q c.requires.2 c.letter.result c.letter.ensures in
-    let numbered :  let a = c.args in Going (rest_of false (fields_with a.k) a.s.now a.p) (set a.out.now a.q c.letter.result) (a.q + 1) 0 c.print_numbers-at.new.out c.print_numbers-at.result numbers_of_payment_line =  let a = c.args in going_more lettered (numbers_at a.s.now a.p) numbers_of_payment_line (rest_numbers (fields_with a.k) a.s.now a.p c.requires.0 (omega arith)) c.print_numbers-at.ensures.place c.print_numbers-at.ensures.out in
-    let ended :  let a = c.args in Ended false (fields_with a.k) a.s.now a.p a.out.now a.q c.loop-part.out c.loop-part.at =  let a = c.args in line_ends false (fields_with a.k) a.s.now a.p a.out.now a.q c.requires.2 c.letter.result c.letter.ensures (omega arith) (going_on numbered (going_on c.loop-i.invariant.1 c.loop-part.invariant)) in
+    let lettered : let a = c.args in Going (rest_of false (fields_with a.k) a.s.now a.p) (set a.out.now a.q c.letter.result) (a.q + 1) 0 (set a.out.now a.q c.letter.result) (a.q + 1) 0 = let a = c.args in line_start false (fields_with a.k) a.s.now a.p a.out.now a.q c.requires.2 c.letter.result c.letter.ensures in
+    let numbered : let a = c.args in Going (rest_of false (fields_with a.k) a.s.now a.p) (set a.out.now a.q c.letter.result) (a.q + 1) 0 c.print_numbers-at.new.out c.print_numbers-at.result numbers_of_payment_line = let a = c.args in going_more lettered (numbers_at a.s.now a.p) numbers_of_payment_line (rest_numbers (fields_with a.k) a.s.now a.p c.requires.0 (omega arith)) c.print_numbers-at.ensures.place c.print_numbers-at.ensures.out in
+    let ended : let a = c.args in Ended false (fields_with a.k) a.s.now a.p a.out.now a.q c.loop-part.out c.loop-part.at = let a = c.args in line_ends false (fields_with a.k) a.s.now a.p a.out.now a.q c.requires.2 c.letter.result c.letter.ensures (omega arith) (going_on numbered (going_on c.loop-i.invariant.1 c.loop-part.invariant)) in
     rw length-set ended.long
 
 pub returns : goal.returns
 returns c =
-    let lettered : let a = c.args in Going (rest_of false (fields_with a.k) a.s.now a.p) (set a.out.now a.q c.letter.result) (a.q + 1) 0 (set a.out.now a.q c.letter.result) (a.q + 1) 0 =  let a = c.args in line_start false (fields_with a.k) a.s.now a.p a.out.now a.q c.requires.2 c.letter.result c.letter.ensures in
-    let numbered :  let a = c.args in Going (rest_of false (fields_with a.k) a.s.now a.p) (set a.out.now a.q c.letter.result) (a.q + 1) 0 c.print_numbers-at.new.out c.print_numbers-at.result numbers_of_payment_line =  let a = c.args in going_more lettered (numbers_at a.s.now a.p) numbers_of_payment_line (rest_numbers (fields_with a.k) a.s.now a.p c.requires.0 (omega arith)) c.print_numbers-at.ensures.place c.print_numbers-at.ensures.out in
-    let ended :  let a = c.args in Ended false (fields_with a.k) a.s.now a.p a.out.now a.q c.loop-part.out c.loop-part.at =  let a = c.args in line_ends false (fields_with a.k) a.s.now a.p a.out.now a.q c.requires.2 c.letter.result c.letter.ensures (omega arith) (going_on numbered (going_on c.loop-i.invariant.1 c.loop-part.invariant)) in
+    let lettered : let a = c.args in Going (rest_of false (fields_with a.k) a.s.now a.p) (set a.out.now a.q c.letter.result) (a.q + 1) 0 (set a.out.now a.q c.letter.result) (a.q + 1) 0 = let a = c.args in line_start false (fields_with a.k) a.s.now a.p a.out.now a.q c.requires.2 c.letter.result c.letter.ensures in
+    let numbered : let a = c.args in Going (rest_of false (fields_with a.k) a.s.now a.p) (set a.out.now a.q c.letter.result) (a.q + 1) 0 c.print_numbers-at.new.out c.print_numbers-at.result numbers_of_payment_line = let a = c.args in going_more lettered (numbers_at a.s.now a.p) numbers_of_payment_line (rest_numbers (fields_with a.k) a.s.now a.p c.requires.0 (omega arith)) c.print_numbers-at.ensures.place c.print_numbers-at.ensures.out in
+    let ended : let a = c.args in Ended false (fields_with a.k) a.s.now a.p a.out.now a.q c.loop-part.out c.loop-part.at = let a = c.args in line_ends false (fields_with a.k) a.s.now a.p a.out.now a.q c.requires.2 c.letter.result c.letter.ensures (omega arith) (going_on numbered (going_on c.loop-i.invariant.1 c.loop-part.invariant)) in
     record { place = ended.place; out = ended.whole }

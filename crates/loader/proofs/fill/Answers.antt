@@ -119,7 +119,7 @@ plus_payment-sums-requires c =
 
 pub overflow_add-p-in-loop-p-5 : goal.overflow_add-p-in-loop-p-5
 overflow_add-p-in-loop-p-5 c =
-    let on :  c.bytes_of-p.result ≡ length (write_payment (next c.requires c.loop-p.invariant c.loop-p-test.true).payment) =  stepped c.requires c.loop-p.invariant c.loop-p-test.true c.known_number-bank_code.ensures c.known_number-account.ensures c.known_number-amount.ensures c.count_at-k.ensures c.bytes_of-p.ensures in
+    let on : c.bytes_of-p.result ≡ length (write_payment (next c.requires c.loop-p.invariant c.loop-p-test.true).payment) = stepped c.requires c.loop-p.invariant c.loop-p-test.true c.known_number-bank_code.ensures c.known_number-account.ensures c.known_number-amount.ensures c.count_at-k.ensures c.bytes_of-p.ensures in
     omega (arith, on, (next c.requires c.loop-p.invariant c.loop-p-test.true).inside)
 
 pub overflow_add-i : goal.overflow_add-i
@@ -140,7 +140,7 @@ overflow_add-count c =
 
 pub loop-p-smaller : goal.loop-p-smaller
 loop-p-smaller c =
-    let on :  c.bytes_of-p.result ≡ length (write_payment (next c.requires c.loop-p.invariant c.loop-p-test.true).payment) =  stepped c.requires c.loop-p.invariant c.loop-p-test.true c.known_number-bank_code.ensures c.known_number-account.ensures c.known_number-amount.ensures c.count_at-k.ensures c.bytes_of-p.ensures in
+    let on : c.bytes_of-p.result ≡ length (write_payment (next c.requires c.loop-p.invariant c.loop-p-test.true).payment) = stepped c.requires c.loop-p.invariant c.loop-p-test.true c.known_number-bank_code.ensures c.known_number-account.ensures c.known_number-amount.ensures c.count_at-k.ensures c.bytes_of-p.ensures in
     let y = next c.requires c.loop-p.invariant c.loop-p-test.true in
     omega (arith, on, y.inside, some_bytes y.payment)
 

@@ -19,17 +19,17 @@ bounds-s-p c = omega arith
 
 pub overflow_cast-v : goal.overflow_cast-v
 overflow_cast-v c =
-    let digit : let b = c.args in let x = get_or b.s.now (b.p + c.loop-i.i) 0 in (0x30 ≤ x) × (x ≤ 0x39) =  digit_there _ _ _ c.requires.0 c.requires.1.1 _ c.loop-i-test.true in
+    let digit : let b = c.args in let x = get_or b.s.now (b.p + c.loop-i.i) 0 in (0x30 ≤ x) × (x ≤ 0x39) = digit_there _ _ _ c.requires.0 c.requires.1.1 _ c.loop-i-test.true in
     let d = digit in omega arith
 
 pub overflow_sub-v : goal.overflow_sub-v
 overflow_sub-v c =
-    let digit : let b = c.args in let x = get_or b.s.now (b.p + c.loop-i.i) 0 in (0x30 ≤ x) × (x ≤ 0x39) =  digit_there _ _ _ c.requires.0 c.requires.1.1 _ c.loop-i-test.true in
+    let digit : let b = c.args in let x = get_or b.s.now (b.p + c.loop-i.i) 0 in (0x30 ≤ x) × (x ≤ 0x39) = digit_there _ _ _ c.requires.0 c.requires.1.1 _ c.loop-i-test.true in
     digit.0
 
 pub overflow_add-v-in-loop-i : goal.overflow_add-v-in-loop-i
 overflow_add-v-in-loop-i c =
-    let digit : let b = c.args in let x = get_or b.s.now (b.p + c.loop-i.i) 0 in (0x30 ≤ x) × (x ≤ 0x39) =  digit_there _ _ _ c.requires.0 c.requires.1.1 _ c.loop-i-test.true in
+    let digit : let b = c.args in let x = get_or b.s.now (b.p + c.loop-i.i) 0 in (0x30 ≤ x) × (x ≤ 0x39) = digit_there _ _ _ c.requires.0 c.requires.1.1 _ c.loop-i-test.true in
     let l = c.loop-i in let d = digit in omega (arith, spelt_room _ l.i l.v l.invariant (omega arith))
 
 pub overflow_add-i : goal.overflow_add-i

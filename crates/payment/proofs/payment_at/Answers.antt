@@ -63,7 +63,7 @@ returns-in_default-names c =
     let paid : Amount = (amount_is _ _ c.amount_at-amount.ensures c.in-Is-amount.is).0 in
     let past0 : At tree c.args.p = start tree c.args.p in
     let past1 : At (behindFirst received) c.in-Is.p8 = past_part first behindFirst past0 (receiver_is _ _ _ c.receiver_at-receiver.ensures c.in-Is.is).1 in
-    let past2 :  At (behind_amount c.args.l received paid) c.in-Is-amount.p13 =  past_part second (behind_amount c.args.l received) past1 (amount_is _ _ c.amount_at-amount.ensures c.in-Is-amount.is).1 in
+    let past2 : At (behind_amount c.args.l received paid) c.in-Is-amount.p13 = past_part second (behind_amount c.args.l received) past1 (amount_is _ _ c.amount_at-amount.ensures c.in-Is-amount.is).1 in
     stopped_part names (behind_names c.args.l received paid) past2 passings_told c.names_at-names.ensures c.in_default-names.is c.why-in_default-names.ensures
 
 pub returns-in_default-count : goal.returns-in_default-count
@@ -78,8 +78,8 @@ returns-in_default-count c =
     let named : Names = (passed_form _ c.names_at-names.ensures c.in-To.is).0 in
     let past0 : At tree c.args.p = start tree c.args.p in
     let past1 : At (behindFirst received) c.in-Is.p8 = past_part first behindFirst past0 (receiver_is _ _ _ c.receiver_at-receiver.ensures c.in-Is.is).1 in
-    let past2 :  At (behind_amount c.args.l received paid) c.in-Is-amount.p13 =  past_part second (behind_amount c.args.l received) past1 (amount_is _ _ c.amount_at-amount.ensures c.in-Is-amount.is).1 in
-    let past3 :  At (behind_names c.args.l received paid named) c.in-To.p17a = let l = c.args.l in past_part names (behind_names l received paid) past2 (passed_form _ c.names_at-names.ensures c.in-To.is).1 in
+    let past2 : At (behind_amount c.args.l received paid) c.in-Is-amount.p13 = past_part second (behind_amount c.args.l received) past1 (amount_is _ _ c.amount_at-amount.ensures c.in-Is-amount.is).1 in
+    let past3 : At (behind_names c.args.l received paid named) c.in-To.p17a = let l = c.args.l in past_part names (behind_names l received paid) past2 (passed_form _ c.names_at-names.ensures c.in-To.is).1 in
     stopped_part (part_count c.args.l) (behind_count received paid named) past3 numbers_told c.part_count_at-count.ensures c.in_default-count.is c.why-in_default-count.ensures
 
 pub returns-in_default-parts : goal.returns-in_default-parts
@@ -94,9 +94,9 @@ returns-in_default-parts c =
     let named : Names = (passed_form _ c.names_at-names.ensures c.in-To.is).0 in
     let past0 : At tree c.args.p = start tree c.args.p in
     let past1 : At (behindFirst received) c.in-Is.p8 = past_part first behindFirst past0 (receiver_is _ _ _ c.receiver_at-receiver.ensures c.in-Is.is).1 in
-    let past2 :  At (behind_amount c.args.l received paid) c.in-Is-amount.p13 =  past_part second (behind_amount c.args.l received) past1 (amount_is _ _ c.amount_at-amount.ensures c.in-Is-amount.is).1 in
-    let past3 :  At (behind_names c.args.l received paid named) c.in-To.p17a = let l = c.args.l in past_part names (behind_names l received paid) past2 (passed_form _ c.names_at-names.ensures c.in-To.is).1 in
-    let past4 :  At (behind_count received paid named c.in-Is-count.k) c.in-Is-count.first =  past_part (part_count c.args.l) (behind_count received paid named) past3 (number_form _ c.part_count_at-count.ensures c.in-Is-count.is) in
+    let past2 : At (behind_amount c.args.l received paid) c.in-Is-amount.p13 = past_part second (behind_amount c.args.l received) past1 (amount_is _ _ c.amount_at-amount.ensures c.in-Is-amount.is).1 in
+    let past3 : At (behind_names c.args.l received paid named) c.in-To.p17a = let l = c.args.l in past_part names (behind_names l received paid) past2 (passed_form _ c.names_at-names.ensures c.in-To.is).1 in
+    let past4 : At (behind_count received paid named c.in-Is-count.k) c.in-Is-count.first = past_part (part_count c.args.l) (behind_count received paid named) past3 (number_form _ c.part_count_at-count.ensures c.in-Is-count.is) in
     let parts_of : Form Name (List Part) = parts c.in-Is-count.k 0 15 in
     let completed : List Part → Form Name Payment = λ ps. ret (joined received paid named ps) in
     stopped_part parts_of completed past4 passings_told c.read_parts-parts.ensures c.in_default-parts.is c.why-in_default-parts.ensures
@@ -113,9 +113,9 @@ returns c =
     let named : Names = (passed_form _ c.names_at-names.ensures c.in-To.is).0 in
     let past0 : At tree c.args.p = start tree c.args.p in
     let past1 : At (behindFirst received) c.in-Is.p8 = past_part first behindFirst past0 (receiver_is _ _ _ c.receiver_at-receiver.ensures c.in-Is.is).1 in
-    let past2 :  At (behind_amount c.args.l received paid) c.in-Is-amount.p13 =  past_part second (behind_amount c.args.l received) past1 (amount_is _ _ c.amount_at-amount.ensures c.in-Is-amount.is).1 in
-    let past3 :  At (behind_names c.args.l received paid named) c.in-To.p17a = let l = c.args.l in past_part names (behind_names l received paid) past2 (passed_form _ c.names_at-names.ensures c.in-To.is).1 in
-    let past4 :  At (behind_count received paid named c.in-Is-count.k) c.in-Is-count.first =  past_part (part_count c.args.l) (behind_count received paid named) past3 (number_form _ c.part_count_at-count.ensures c.in-Is-count.is) in
+    let past2 : At (behind_amount c.args.l received paid) c.in-Is-amount.p13 = past_part second (behind_amount c.args.l received) past1 (amount_is _ _ c.amount_at-amount.ensures c.in-Is-amount.is).1 in
+    let past3 : At (behind_names c.args.l received paid named) c.in-To.p17a = let l = c.args.l in past_part names (behind_names l received paid) past2 (passed_form _ c.names_at-names.ensures c.in-To.is).1 in
+    let past4 : At (behind_count received paid named c.in-Is-count.k) c.in-Is-count.first = past_part (part_count c.args.l) (behind_count received paid named) past3 (number_form _ c.part_count_at-count.ensures c.in-Is-count.is) in
     let parts_of : Form Name (List Part) = parts c.in-Is-count.k 0 15 in
     let completed : List Part → Form Name Payment = λ ps. ret (joined received paid named ps) in
     let r = receiver_is _ _ _ c.receiver_at-receiver.ensures c.in-Is.is in

@@ -29,12 +29,12 @@ returns-then-out-length c =
 
 pub bounds-out-length : goal.bounds-out-length
 bounds-out-length c =
-    let kept :  length c.put_number-2.new.out ≡ length c.args.out.now =  (simp length-set at c.put_number-2.auto.out) ∙ c.put_number.auto.out in
+    let kept : length c.put_number-2.new.out ≡ length c.args.out.now = (simp length-set at c.put_number-2.auto.out) ∙ c.put_number.auto.out in
     let k = kept in omega arith
 
 pub shape_of-out : goal.shape_of-out
 shape_of-out c =
-    let kept :  length c.put_number-2.new.out ≡ length c.args.out.now =  (simp length-set at c.put_number-2.auto.out) ∙ c.put_number.auto.out in
+    let kept : length c.put_number-2.new.out ≡ length c.args.out.now = (simp length-set at c.put_number-2.auto.out) ∙ c.put_number.auto.out in
     rw length-set kept
 
 pub returns : goal.returns

@@ -15,5 +15,5 @@ returns c =
 
 pub shape_of-out : goal.shape_of-out
 shape_of-out c =
-    let returns =  let p = c.requires in end_written p.0 p.1 c.blank.ensures c.put.ensures c.put-2.ensures c.put_number.ensures c.put_number-2.ensures c.put_number-3.ensures c.put_number-4.ensures c.put_number-5.ensures in
+    let returns = let p = c.requires in end_written p.0 p.1 c.blank.ensures c.put.ensures c.put-2.ensures c.put_number.ensures c.put_number-2.ensures c.put_number-3.ensures c.put_number-4.ensures c.put_number-5.ensures in
     let e = ap length returns ∙ end_length _ in omega (arith, c.requires.0)

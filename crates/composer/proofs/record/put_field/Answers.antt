@@ -24,12 +24,12 @@ bounds-x-q c = omega arith
 
 pub overflow_add-out : goal.overflow_add-out
 overflow_add-out c =
-    let room : c.args.p + c.loop-i.i < length c.loop-i.out =  copy_room c.args.x.now c.args.q c.loop-i.invariant c.loop-i-test.true c.if-b-eq-TAB.false in
+    let room : c.args.p + c.loop-i.i < length c.loop-i.out = copy_room c.args.x.now c.args.q c.loop-i.invariant c.loop-i-test.true c.if-b-eq-TAB.false in
     omega (arith, room)
 
 pub bounds-out-p : goal.bounds-out-p
 bounds-out-p c =
-    let room : c.args.p + c.loop-i.i < length c.loop-i.out =  copy_room c.args.x.now c.args.q c.loop-i.invariant c.loop-i-test.true c.if-b-eq-TAB.false in
+    let room : c.args.p + c.loop-i.i < length c.loop-i.out = copy_room c.args.x.now c.args.q c.loop-i.invariant c.loop-i-test.true c.if-b-eq-TAB.false in
     omega (arith, room)
 
 pub overflow_add-i : goal.overflow_add-i

@@ -22,7 +22,7 @@ returns-then-i-n c =
 
 pub shape_of-out-then-i-n : goal.shape_of-out-then-i-n
 shape_of-out-then-i-n c =
-    let returns =  put_ends c.loop-i.invariant _ c.cell_at-c.ensures _ c.put_field-e.ensures.place c.put_field-e.ensures.out c.if-i-n.true in
+    let returns = put_ends c.loop-i.invariant _ c.cell_at-c.ensures _ c.put_field-e.ensures.place c.put_field-e.ensures.out c.if-i-n.true in
     put_long c.requires (fields_of _) returns
 
 pub overflow_add-q : goal.overflow_add-q

@@ -34,5 +34,5 @@ returns c =
 
 pub shape_of-out : goal.shape_of-out
 shape_of-out c =
-    let returns =  let pre = c.requires.0 in let s₁ = put_number pre 0 (omega arith) pre.laid c.put.ensures in let s₂ = put_number pre 1 (omega arith) s₁ c.put-2.ensures in let s₃ = put_number pre 2 (omega arith) s₂ c.put-3.ensures in let s₄ = put_number pre 3 (omega arith) s₃ c.put-4.ensures in let s₅ = put_number pre 4 (omega arith) s₄ c.put-5.ensures in let s₆ = put_number pre 5 (omega arith) s₅ c.put-6.ensures in let s₇ = put_number pre 6 (omega arith) s₆ c.put-7.ensures in let s₈ = put_number pre 7 (omega arith) s₇ c.put-8.ensures in put_number pre 8 (omega arith) s₈ c.put-9.ensures in
+    let returns = let pre = c.requires.0 in let s₁ = put_number pre 0 (omega arith) pre.laid c.put.ensures in let s₂ = put_number pre 1 (omega arith) s₁ c.put-2.ensures in let s₃ = put_number pre 2 (omega arith) s₂ c.put-3.ensures in let s₄ = put_number pre 3 (omega arith) s₃ c.put-4.ensures in let s₅ = put_number pre 4 (omega arith) s₄ c.put-5.ensures in let s₆ = put_number pre 5 (omega arith) s₅ c.put-6.ensures in let s₇ = put_number pre 6 (omega arith) s₆ c.put-7.ensures in let s₈ = put_number pre 7 (omega arith) s₇ c.put-8.ensures in put_number pre 8 (omega arith) s₈ c.put-9.ensures in
     put_long c.requires.0 (take 9 (fields_of _)) returns
