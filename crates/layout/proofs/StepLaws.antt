@@ -14,7 +14,7 @@ use Rattle.form.proofs.KindLaws.{numeral_length}
 use Rattle.document.specs.Values.{Payment, Document, Totals, totals}
 use Rattle.document.specs.Rules.{All, LegalPayment, Legal}
 use Rattle.document.specs.Marks.{most_parts}
-use Rattle.diskette.specs.Writing.{in_turn, section, length_of, write_header, write_body, write_payment, write_payments, fields_of_e, write_end, write}
+use Rattle.diskette.specs.Writing.{in_turn, section, length_of, write_header, write_body, write_payment, write_payments, fields_of_e, write_end, write, Acceptable}
 use Rattle.diskette.specs.Fields.{Name}
 use Rattle.diskette.specs.Answer.{answer, payments_of}
 use Rattle.diskette.proofs.LayoutLaws.{header_length}
@@ -60,6 +60,10 @@ file_stands f p d legal rest bytes =
       end = opened (fields_of_end (totals ps)) (behind_first behind-a refl);
     }
 
+-- in an acceptable file the payments come behind A
+behind_header_lem : (f : List ℕ) (x : Acceptable f) → Coming f first_payment x.0.payments
+behind_header_lem f x = (file_stands f 0 x.0 x.1 [] (sym x.2 ∙ sym (append-nil (write x.0)))).payments
+
 pub payments_coming : (f : List ℕ) → Coming f first_payment (payments_of (answer f))
 unfolding payments_of
 payments_coming f = by (answer f) refl
@@ -67,7 +71,7 @@ payments_coming f = by (answer f) refl
     by : (a : Answer Name Document) → answer f ≡ a → Coming f first_payment (payments_of (answer f))
     by (accepted d) e =
         let x = (accepted_exactly f).0 (d, e) in
-        rw (accepted_reading f x) (file_stands f 0 x.0 x.1 [] (sym x.2 ∙ sym (append-nil (write x.0)))).payments
+        rw (accepted_reading f x) (behind_header_lem f x)
     by (refused r) e = rw e (record { kind = []; legal = tt; stand = record { rest = drop first_payment f; bytes = refl } })
 
 -- ---- the first of them

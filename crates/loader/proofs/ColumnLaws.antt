@@ -41,16 +41,16 @@ Filled ps c4 c5 c12 start c4' c5' c12' start' =
 
 -- a column with the rows before i written: as long as it was; the rows still to come, written from i on, make of it what all rows, written from
 -- the first on, make of the old column
-pub record Column (old col : List ℕ) (first i : ℕ) (left all : List ℕ) : Type 0 where
+pub record ColumnFrom (old col : List ℕ) (first i : ℕ) (left all : List ℕ) : Type 0 where
   pub long : length col ≡ length old
   pub comes : sets col i left ≡ sets old first all
 
-pub column_start : (old : List ℕ) (first : ℕ) (all : List ℕ) → Column old old first first all all
-column_start old first all = record { long = refl; comes = refl }
+pub column_from_start : (old : List ℕ) (first : ℕ) (all : List ℕ) → ColumnFrom old old first first all all
+column_from_start old first all = record { long = refl; comes = refl }
 
 -- one row more
-pub column_more : {old col all vs : List ℕ} {first i v r : ℕ} → Column old col first i (v ∷ vs) all → r ≡ v → Column old (set col i r) first (i + 1) vs all
-column_more {col = col} {i = i} {r = r} c e = record { long = length-set col i r ∙ c.long; comes = rw (e, add-one i) c.comes }
+pub column_from_more : {old col all vs : List ℕ} {first i v r : ℕ} → ColumnFrom old col first i (v ∷ vs) all → r ≡ v → ColumnFrom old (set col i r) first (i + 1) vs all
+column_from_more {col = col} {i = i} {r = r} c e = record { long = length-set col i r ∙ c.long; comes = rw (e, add-one i) c.comes }
 
 -- some rows and then others
 sets_append : (a b l : List ℕ) (i : ℕ) → sets l i (a ++ b) ≡ sets (sets l i a) (i + length a) b
@@ -60,11 +60,26 @@ sets_append (x ∷ xs) b l i =
     sets_append xs b (set l i x) (suc i) ∙ ap (λ n. sets (sets (set l i x) (suc i) xs) n b) e
 
 -- several rows at once
-pub column_run : {old col new all ws : List ℕ} {first i n : ℕ} (vs : List ℕ) → Column old col first i (vs ++ ws) all → new ≡ sets col i vs → length vs ≡ n
-    → Column old new first (i + n) ws all
+pub column_run : {old col new all ws : List ℕ} {first i n : ℕ} (vs : List ℕ) → ColumnFrom old col first i (vs ++ ws) all → new ≡ sets col i vs → length vs ≡ n
+    → ColumnFrom old new first (i + n) ws all
 column_run {col = col} {ws = ws} {i = i} vs c e l =
     record { long = ap length e ∙ length-sets col i vs ∙ c.long; comes = rw (e, ← l) (sym (sets_append vs ws col i) ∙ c.comes) }
 
 -- rows written from the first place on, where the column has room for them
 pub sets_filled : (all old : List ℕ) → length all ≤ length old → sets old 0 all ≡ filled all old
 sets_filled all old h = sets-eq all old 0 (omega arith) ∙ rw zero-add
+
+-- ---- rows written from the first place on
+
+-- a column with i rows written: as long as it was; the rows still to come, written from i on, make of it what all rows make of the old column
+abbrev pub Column : List ℕ → List ℕ → ℕ → List ℕ → List ℕ → Type 0
+Column old col i left all = ColumnFrom old col 0 i left all
+
+pub column_start : (old all : List ℕ) → Column old old 0 all all
+column_start old all = column_from_start old 0 all
+
+pub column_more : {old col all vs : List ℕ} {i v r : ℕ} → Column old col i (v ∷ vs) all → r ≡ v → Column old (set col i r) (i + 1) vs all
+column_more c e = column_from_more c e
+
+pub column_end : {old col all : List ℕ} {i : ℕ} → Column old col i [] all → length all ≤ length old → col ≡ filled all old
+column_end {old} {all = all} c h = c.comes ∙ sets_filled all old h

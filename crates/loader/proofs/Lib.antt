@@ -1,6 +1,7 @@
 pub mod NumberLaws
 pub mod ColumnLaws
 pub mod FillLaws
+pub mod FileFillLaws
 pub mod LoadLaws
 pub mod MediumFillLaws
 pub mod MediumLoadLaws

@@ -1,32 +1,21 @@
 -- A load, once the check has answered: the file's refusal, no room, or all rows.
-use Prim.Native.Nat.{ℕ, ◌+◌}
-use native.Mathlib.Omega.{arith}
+use Prim.Native.Nat.{ℕ}
 use mathlib.Core.Path.{◌≡◌, refl, sym, ap, subst, ◌∙◌}
 use mathlib.Core.Logic.{◌≢◌}
 use mathlib.Core.Bool.{Bool, true, false, ◌&&◌, and-true}
 use mathlib.Core.List.{List, [], ◌∷◌}
-use lib.ListN.{length, length-map}
+use lib.ListN.{length}
 use lib.Dec.{leb}
 use borrow.Author.Tests.{eq-eqb, ne_eqb}
 use Rattle.form.specs.Reader.{Answer, accepted, refused}
-use Rattle.form.specs.Place.{done, read_at}
-use Rattle.form.proofs.RulesLaws.{whole_read}
-use Rattle.document.specs.Values.{Payment, Document}
-use Rattle.document.specs.Rules.{Legal}
-use Rattle.diskette.specs.Writing.{write, Acceptable}
-use Rattle.diskette.specs.Fields.{Name, document}
+use Rattle.document.specs.Values.{Document}
+use Rattle.diskette.specs.Fields.{Name}
 use Rattle.diskette.specs.Answer.{answer, outcome, payments_of}
-use Rattle.diskette.proofs.FileSays.{document_says}
-use Rattle.diskette.proofs.Promises.{zero_exactly, accepted_exactly, accepted_reading, payments_counted}
-use Rattle.layout.specs.Steps.{first_payment}
+use Rattle.diskette.proofs.Promises.{zero_exactly, accepted_exactly, payments_counted}
 use Rattle.checker.specs.declared.Checked.{Checked}
 use Rattle.checker.specs.Checking.{checked_of}
-use Rattle.loader.specs.declared.FileRows.{FileRows}
-use Rattle.loader.specs.Columns.{bank_codes, accounts, cents, starts}
 use Rattle.loader.specs.Loading.{have_room, if_room, loading, no_room, rows}
-use Rattle.loader.specs.Filling.{payments_read, Fillable}
-use Rattle.loader.proofs.ColumnLaws.{Roomy, has_room, Filled, sets_filled}
-use Rattle.loader.proofs.FillLaws.{length_starts, payments_at, FilledAt}
+use Rattle.loader.proofs.ColumnLaws.{Filled}
 
 -- the test of four columns as the code has it
 abbrev pub four_tested : ℕ → List ℕ → List ℕ → List ℕ → List ℕ → Bool
@@ -78,51 +67,11 @@ module _ (file c4 c5 c12 start : List ℕ) where
 
       -- all rows are written
       module _ (t : four_tested c.count c4 c5 c12 start ≡ true) where
-        room : have_room c.count columns ≡ true
-        room = sym (room_of_four c.count c4 c5 c12 start) ∙ t
+        pub may_fill : (c.count ≡ length (payments_of (answer file))) × (have_room c.count columns ≡ true)
+        may_fill = (count_is file told zero, sym (room_of_four c.count c4 c5 c12 start) ∙ t)
 
-        roomy : Roomy (length (payments_of (answer file))) c4 c5 c12 start
-        roomy = subst (λ n. Roomy n c4 c5 c12 start) (count_is file told zero) (has_room c.count c4 c5 c12 start room)
-
-        reading : Acceptable file
-        reading = (zero_exactly file).0 (sym (ap (λ (x : Checked). x.verdict.number) told) ∙ zero)
-
-        paid : payments_of (answer file) ≡ reading.0.payments
-        unfolding payments_of
-        paid = ap payments_of (accepted_reading file reading)
-
-        -- the file stands at its first byte
-        read_there : read_at document file 0 ≡ done reading.0 (length file)
-        read_there =
-            let x = reading in
-            subst (λ f. read_at document f 0 ≡ done x.0 (length f)) x.2 (whole_read document Legal write document_says x.0 x.1)
-
-        pub may_fill : Fillable file 0 0 columns
-        may_fill =
-            let n : c.count ≡ 0 + length reading.0.payments = omega (arith, count_is file told zero, ap length paid) in
-            record { says = reading.0; behind = length file; inside = omega arith; read = read_there; room = subst (λ n. have_room n columns ≡ true) n room }
-
-        payments_are : payments_at file 0 ≡ payments_of (answer file)
-        unfolding payments_read
-        payments_are = ap payments_read read_there ∙ sym paid
-
-        all_filled : {r : FileRows} {c4' c5' c12' start' : List ℕ} → FilledAt file 0 0 c4 c5 c12 start r c4' c5' c12' start'
-            → Filled (payments_of (answer file)) c4 c5 c12 start c4' c5' c12' start'
-        all_filled g =
-            let ps = payments_of (answer file) in
-            let f = rw payments_are at g.1 in (
-              f.0 ∙ sets_filled (bank_codes ps) c4 (rw (length-map ps (λ (x : Payment). x.bank_code)) roomy.c4),
-              (
-                f.1.0 ∙ sets_filled (accounts ps) c5 (rw (length-map ps (λ (x : Payment). x.account)) roomy.c5),
-                (
-                  f.1.1.0 ∙ sets_filled (cents ps) c12 (rw (length-map ps (λ (x : Payment). x.cents)) roomy.c12),
-                  f.1.1.1 ∙ sets_filled (starts ps) start (rw (length_starts first_payment ps) roomy.start),
-                ),
-              ),
-            )
-
-        pub load_full : {r : FileRows} {c4' c5' c12' start' : List ℕ} → FilledAt file 0 0 c4 c5 c12 start r c4' c5' c12' start'
+        pub load_full : {c4' c5' c12' start' : List ℕ} → Filled (payments_of (answer file)) c4 c5 c12 start c4' c5' c12' start'
             → Says file c4 c5 c12 start c c4' c5' c12' start'
-        load_full {c4' = c4'} {c5'} {c12'} {start'} g =
+        load_full {c4'} {c5'} {c12'} {start'} f =
             let all : payments_of (answer file) ≡ rows c file = rw (eq-eqb c.verdict.number 0 zero) in
-            (told ∙ ap checked_of (sym (loaded_if ∙ rw room)), subst (λ ps. Filled ps c4 c5 c12 start c4' c5' c12' start') all (all_filled g))
+            (told ∙ ap checked_of (sym (loaded_if ∙ rw may_fill.1)), subst (λ ps. Filled ps c4 c5 c12 start c4' c5' c12' start') all f)

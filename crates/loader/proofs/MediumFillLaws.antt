@@ -2,7 +2,7 @@
 -- behind it.
 -- The files left stand at p, end to end (`FilesComing`), so the first of them is read there, and the fill of its rows tells what its payments come
 -- to and where it ends (`rows_told`). In each of the nine columns the rows still to come make of it what all rows make of the old one: the columns
--- of payments run on by the rows of the file (`column_run`), those of the table by one row (`column_more`). Behind the last byte no file is left.
+-- of payments run on by the rows of the file (`column_run`), those of the table by one row (`column_from_more`). Behind the last byte no file is left.
 use Prim.Native.Nat.{ℕ, ◌+◌, ◌≤◌, ◌<◌}
 use native.Mathlib.Omega.{arith}
 use mathlib.Core.Path.{◌≡◌, refl, sym, ap, ◌∙◌}
@@ -32,8 +32,9 @@ use Rattle.loader.specs.Columns.{bank_codes, accounts, cents, starts_in}
 use Rattle.loader.specs.Loading.{have_room}
 use Rattle.loader.specs.Filling.{payments_read, rows_read, Fillable}
 use Rattle.loader.specs.Medium.{medium_starts, file_starts, file_counts, file_accounts, file_bank_codes, file_cents, MediumFillable}
-use Rattle.loader.proofs.ColumnLaws.{Roomy, has_room, Column, column_start, column_more, column_run}
-use Rattle.loader.proofs.FillLaws.{length_starts, payments_at, FilledAt}
+use Rattle.loader.proofs.ColumnLaws.{Roomy, has_room, ColumnFrom, column_from_start, column_from_more, column_run}
+use Rattle.loader.proofs.FillLaws.{length_starts}
+use Rattle.loader.proofs.FileFillLaws.{payments_at, FilledAt}
 
 -- ---- room
 
@@ -131,15 +132,15 @@ pub record MediumFilling (f c4₀ c5₀ c12₀ start₀ begin₀ count₀ sum5�
   pub coming : FilesComing f p left
   pub payments : row + length (all_payments left) ≡ length (all_payments (files_in f))
   pub files : file + length left ≡ length (files_in f)
-  pub bank_codes_left : Column c4₀ c4 0 row (bank_codes (all_payments left)) (bank_codes (all_payments (files_in f)))
-  pub accounts_left : Column c5₀ c5 0 row (accounts (all_payments left)) (accounts (all_payments (files_in f)))
-  pub cents_left : Column c12₀ c12 0 row (cents (all_payments left)) (cents (all_payments (files_in f)))
-  pub starts_left : Column start₀ start 0 row (medium_starts p left) (medium_starts 0 (files_in f))
-  pub file_starts_left : Column begin₀ begin 0 file (file_starts p left) (file_starts 0 (files_in f))
-  pub file_counts_left : Column count₀ count 0 file (file_counts left) (file_counts (files_in f))
-  pub file_accounts_left : Column sum5₀ sum5 0 file (file_accounts left) (file_accounts (files_in f))
-  pub file_bank_codes_left : Column sum4₀ sum4 0 file (file_bank_codes left) (file_bank_codes (files_in f))
-  pub file_cents_left : Column sum12₀ sum12 0 file (file_cents left) (file_cents (files_in f))
+  pub bank_codes_left : ColumnFrom c4₀ c4 0 row (bank_codes (all_payments left)) (bank_codes (all_payments (files_in f)))
+  pub accounts_left : ColumnFrom c5₀ c5 0 row (accounts (all_payments left)) (accounts (all_payments (files_in f)))
+  pub cents_left : ColumnFrom c12₀ c12 0 row (cents (all_payments left)) (cents (all_payments (files_in f)))
+  pub starts_left : ColumnFrom start₀ start 0 row (medium_starts p left) (medium_starts 0 (files_in f))
+  pub file_starts_left : ColumnFrom begin₀ begin 0 file (file_starts p left) (file_starts 0 (files_in f))
+  pub file_counts_left : ColumnFrom count₀ count 0 file (file_counts left) (file_counts (files_in f))
+  pub file_accounts_left : ColumnFrom sum5₀ sum5 0 file (file_accounts left) (file_accounts (files_in f))
+  pub file_bank_codes_left : ColumnFrom sum4₀ sum4 0 file (file_bank_codes left) (file_bank_codes (files_in f))
+  pub file_cents_left : ColumnFrom sum12₀ sum12 0 file (file_cents left) (file_cents (files_in f))
 
 pub medium_start : {f c4 c5 c12 start begin count sum5 sum4 sum12 : List ℕ} → MediumFillable f (c4 ∷ c5 ∷ c12 ∷ start ∷ []) (begin ∷ count ∷ sum5 ∷ sum4 ∷ sum12 ∷ [])
     → MediumFilling f c4 c5 c12 start begin count sum5 sum4 sum12 c4 c5 c12 start begin count sum5 sum4 sum12 0 0 0
@@ -150,15 +151,15 @@ medium_start {f} {c4} {c5} {c12} {start} {begin} {count} {sum5} {sum4} {sum12} x
       coming = accepted_coming f x.files x.answered;
       payments = omega arith;
       files = omega arith;
-      bank_codes_left = column_start c4 0 (bank_codes (all_payments all));
-      accounts_left = column_start c5 0 (accounts (all_payments all));
-      cents_left = column_start c12 0 (cents (all_payments all));
-      starts_left = column_start start 0 (medium_starts 0 all);
-      file_starts_left = column_start begin 0 (file_starts 0 all);
-      file_counts_left = column_start count 0 (file_counts all);
-      file_accounts_left = column_start sum5 0 (file_accounts all);
-      file_bank_codes_left = column_start sum4 0 (file_bank_codes all);
-      file_cents_left = column_start sum12 0 (file_cents all);
+      bank_codes_left = column_from_start c4 0 (bank_codes (all_payments all));
+      accounts_left = column_from_start c5 0 (accounts (all_payments all));
+      cents_left = column_from_start c12 0 (cents (all_payments all));
+      starts_left = column_from_start start 0 (medium_starts 0 all);
+      file_starts_left = column_from_start begin 0 (file_starts 0 all);
+      file_counts_left = column_from_start count 0 (file_counts all);
+      file_accounts_left = column_from_start sum5 0 (file_accounts all);
+      file_bank_codes_left = column_from_start sum4 0 (file_bank_codes all);
+      file_cents_left = column_from_start sum12 0 (file_cents all);
     }
 
 module _ {f c4₀ c5₀ c12₀ start₀ begin₀ count₀ sum5₀ sum4₀ sum12₀ c4 c5 c12 start begin count sum5 sum4 sum12 : List ℕ} {p row file : ℕ}
@@ -230,11 +231,11 @@ module _ {f c4₀ c5₀ c12₀ start₀ begin₀ count₀ sum5₀ sum4₀ sum12�
               rw n (column_run (cents ps) (rw (y.is, map-append (λ (z : Payment). z.cents) ps (all_payments ds)) at w.cents_left) k.1.1.0
               (length-map ps (λ (z : Payment). z.cents)));
           starts_left = rw (n, next) (column_run (starts_in p ps) (rw y.is at w.starts_left) k.1.1.1 (length_starts (p + first_payment) ps));
-          file_starts_left = rw next (column_more (rw y.is at w.file_starts_left) refl);
-          file_counts_left = column_more (rw y.is at w.file_counts_left) n;
-          file_accounts_left = column_more (rw y.is at w.file_accounts_left) (ap (λ (z : FileRows). z.sums.accounts.0) e);
-          file_bank_codes_left = column_more (rw y.is at w.file_bank_codes_left) (ap (λ (z : FileRows). z.sums.banks.0) e);
-          file_cents_left = column_more (rw y.is at w.file_cents_left) (ap (λ (z : FileRows). z.sums.cents.0) e);
+          file_starts_left = rw next (column_from_more (rw y.is at w.file_starts_left) refl);
+          file_counts_left = column_from_more (rw y.is at w.file_counts_left) n;
+          file_accounts_left = column_from_more (rw y.is at w.file_accounts_left) (ap (λ (z : FileRows). z.sums.accounts.0) e);
+          file_bank_codes_left = column_from_more (rw y.is at w.file_bank_codes_left) (ap (λ (z : FileRows). z.sums.banks.0) e);
+          file_cents_left = column_from_more (rw y.is at w.file_cents_left) (ap (λ (z : FileRows). z.sums.cents.0) e);
         }
 
 -- ---- behind the last file

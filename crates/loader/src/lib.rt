@@ -1,7 +1,7 @@
 // Loading a file, or a medium of files: it is checked, then the room in the columns, and only then are rows written.
 #![tactic(auto)]
 
-ghost use Rattle.std.specs.Prelude.{◌≡◌, ◌+◌, ◌≤◌, [], ◌∷◌, length, take, drop, T};
+ghost use Rattle.std.specs.Prelude.{true, ◌≡◌, ◌+◌, ◌≤◌, [], ◌∷◌, length, take, drop, T};
 ghost use Rattle.std.proofs.lemmas.List.Edits.{sets};
 ghost use Rattle.form.specs.Kind.{every, digit};
 ghost use Rattle.form.specs.Reader.{number};
@@ -9,11 +9,11 @@ ghost use Rattle.form.specs.Place.{read_at};
 ghost use Rattle.verdict.specs.Lent.{filled};
 ghost use Rattle.document.specs.Medium.{all_payments};
 ghost use Rattle.diskette.specs.Fields.{document};
-ghost use Rattle.diskette.specs.Answer.{answer};
+ghost use Rattle.diskette.specs.Answer.{answer, payments_of};
 ghost use Rattle.diskette.specs.Medium.{medium_answer, files_of};
 ghost use Rattle.checker.specs.Checking.{checked_of};
 ghost use Rattle.loader.specs.Columns.{bank_codes, accounts, cents, starts_in, starts};
-ghost use Rattle.loader.specs.Loading.{loading, rows};
+ghost use Rattle.loader.specs.Loading.{have_room, loading, rows};
 ghost use Rattle.medium.specs.Checking.{medium_checked_of};
 ghost use Rattle.loader.specs.Filling.{Within, plus, payments_read, rows_read, Fillable};
 ghost use Rattle.loader.specs.Medium.{medium_starts, file_starts, file_counts, file_accounts, file_bank_codes, file_cents, medium_loading, files_loaded, MediumFillable};
@@ -36,6 +36,55 @@ fn known_number(s: &[u8], p: usize, w: usize) -> u64
         i += 1;
     }
     v
+}
+
+// Writes the rows of the n payments of an accepted file, from one payment to the next.
+fn fill(s: &[u8], n: usize, c4: &mut [u64], c5: &mut [u64], c12: &mut [u64], start: &mut [u64])
+    requires { (n ≡ length (payments_of (answer s.now))) × (have_room n (c4.old ∷ c5.old ∷ c12.old ∷ start.old ∷ []) ≡ true) }
+    ensures c4 { c4.new ≡ filled (bank_codes (payments_of (answer s.now))) c4.old }
+    ensures c5 { c5.new ≡ filled (accounts (payments_of (answer s.now))) c5.old }
+    ensures c12 { c12.new ≡ filled (cents (payments_of (answer s.now))) c12.old }
+    ensures start { start.new ≡ filled (starts (payments_of (answer s.now))) start.old }
+{
+    let mut p = length::A;
+    let mut row = 0;
+    while row < n {
+        let bank_code = known_number(s, p + at::C4, width::C4);
+        let account = known_number(s, p + at::C5, width::C5);
+        let cents = known_number(s, p + at::C12, width::C12);
+        let k = parts::count_at(s, p);
+        c4[row] = bank_code;
+        c5[row] = account;
+        c12[row] = cents;
+        start[row] = p as u64;
+        p += layout::bytes_of(k);
+        row += 1;
+    }
+}
+
+// Loads the payments of a file into four columns: C4, C5, C12, and the byte where the payment begins.
+pub fn load(s: &[u8], c4: &mut [u64], c5: &mut [u64], c12: &mut [u64], start: &mut [u64]) -> Checked
+    ensures answer { result ≡ checked_of (loading (c4.old ∷ c5.old ∷ c12.old ∷ start.old ∷ []) (answer s.now)) }
+    ensures c4 { c4.new ≡ filled (bank_codes (rows result s.now)) c4.old }
+    ensures c5 { c5.new ≡ filled (accounts (rows result s.now)) c5.old }
+    ensures c12 { c12.new ≡ filled (cents (rows result s.now)) c12.old }
+    ensures start { start.new ≡ filled (starts (rows result s.now)) start.old }
+{
+    let checked = checker::check(s);
+    if checked.verdict.number != 0 {
+        return checked;
+    }
+    let n = checked.count as usize;
+    let roomy = (n <= c4.len()) & ((n <= c5.len()) & ((n <= c12.len()) & (n <= start.len())));
+    if !roomy {
+        return Checked {
+            verdict: verdict::refuse(refusals::NO_ROOM, 0),
+            count: 0,
+            sums: sums::NO_SUMS,
+        };
+    }
+    fill(s, n, c4, c5, c12, start);
+    checked
 }
 
 // What the payments of one file come to, and the place behind its E.
@@ -74,7 +123,7 @@ fn plus_payment(sums: Sums, account: u64, code: u64, amount: u64) -> Sums
 }
 
 // Writes the rows of the accepted file that begins at a place, from a row on: from one payment to the next, until E comes.
-fn fill(
+fn fill_file(
     s: &[u8],
     begin: usize,
     row: usize,
@@ -115,31 +164,6 @@ fn fill(
     }
 }
 
-// Loads the payments of a file into four columns: C4, C5, C12, and the byte where the payment begins.
-pub fn load(s: &[u8], c4: &mut [u64], c5: &mut [u64], c12: &mut [u64], start: &mut [u64]) -> Checked
-    ensures answer { result ≡ checked_of (loading (c4.old ∷ c5.old ∷ c12.old ∷ start.old ∷ []) (answer s.now)) }
-    ensures c4 { c4.new ≡ filled (bank_codes (rows result s.now)) c4.old }
-    ensures c5 { c5.new ≡ filled (accounts (rows result s.now)) c5.old }
-    ensures c12 { c12.new ≡ filled (cents (rows result s.now)) c12.old }
-    ensures start { start.new ≡ filled (starts (rows result s.now)) start.old }
-{
-    let checked = checker::check(s);
-    if checked.verdict.number != 0 {
-        return checked;
-    }
-    let n = checked.count as usize;
-    let roomy = (n <= c4.len()) & ((n <= c5.len()) & ((n <= c12.len()) & (n <= start.len())));
-    if !roomy {
-        return Checked {
-            verdict: verdict::refuse(refusals::NO_ROOM, 0),
-            count: 0,
-            sums: sums::NO_SUMS,
-        };
-    }
-    fill(s, 0, 0, c4, c5, c12, start);
-    checked
-}
-
 // Writes the rows of all files of an accepted medium, and for each file its row of the table.
 fn fill_medium(
     s: &[u8],
@@ -168,7 +192,7 @@ fn fill_medium(
     let mut row = 0;
     let mut file = 0;
     while p < s.len() {
-        let rows = fill(s, p, row, c4, c5, c12, start);
+        let rows = fill_file(s, p, row, c4, c5, c12, start);
         begin[file] = p as u64;
         count[file] = rows.count;
         sum5[file] = rows.sums.accounts.0;

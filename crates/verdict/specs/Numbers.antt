@@ -3,13 +3,13 @@ use Rattle.std.specs.Prelude.{ℕ, List, [], ◌∷◌, ◌++◌}
 
 -- ---- what an input is refused with, whatever is done with it
 
--- a medium of files: what follows an E is the next file
+-- a file
+abbrev pub of_file : List ℕ
+of_file = 1 ∷ 2 ∷ 3 ∷ 4 ∷ 5 ∷ 6 ∷ 7 ∷ 8 ∷ 9 ∷ 10 ∷ 11 ∷ 12 ∷ 13 ∷ 14 ∷ 15 ∷ 21 ∷ 22 ∷ 23 ∷ []
+
+-- a medium of files: those of a file but 15, since what follows an E is the next file
 abbrev pub of_medium : List ℕ
 of_medium = 1 ∷ 2 ∷ 3 ∷ 4 ∷ 5 ∷ 6 ∷ 7 ∷ 8 ∷ 9 ∷ 10 ∷ 11 ∷ 12 ∷ 13 ∷ 14 ∷ 21 ∷ 22 ∷ 23 ∷ []
-
--- a file by itself: besides, bytes can follow its E
-abbrev pub of_file : List ℕ
-of_file = 15 ∷ of_medium
 
 -- a listing: its records are whole, C1 is made, and there is no E; but a line has a form, and lines can be missing
 abbrev pub of_listing : List ℕ

@@ -12,8 +12,8 @@ use Rattle.loader.proofs.fill_medium.Goals as goal
 pub loop-p-init : goal.loop-p-init
 loop-p-init c = medium_start c.requires
 
-pub fill-rows-requires : goal.fill-rows-requires
-fill-rows-requires c = may_fill_file c.requires c.loop-p.invariant c.loop-p-test.true
+pub fill_file-rows-requires : goal.fill_file-rows-requires
+fill_file-rows-requires c = may_fill_file c.requires c.loop-p.invariant c.loop-p-test.true
 
 pub offset_bounds-begin-file : goal.offset_bounds-begin-file
 offset_bounds-begin-file c =
@@ -78,7 +78,7 @@ bounds-sum12-file c =
 pub overflow_add-row : goal.overflow_add-row
 overflow_add-row c =
     let coming : NextFile c.args.s.now c.loop-p.p c.loop-p.invariant.left = next_file c.requires c.loop-p.invariant c.loop-p-test.true in
-    let given : c.fill-rows.result ≡ (let d = coming.says in record { count = length d.payments; sums = sums_of (totals d.payments); next = c.loop-p.p + length (write d) }) = rows_told c.requires c.loop-p.invariant c.loop-p-test.true c.fill-rows.ensures.answer in
+    let given : c.fill_file-rows.result ≡ (let d = coming.says in record { count = length d.payments; sums = sums_of (totals d.payments); next = c.loop-p.p + length (write d) }) = rows_told c.requires c.loop-p.invariant c.loop-p-test.true c.fill_file-rows.ensures.answer in
     let n = ap (λ (z : FileRows). z.count) given in
     omega (arith, n, rows_behind c.requires c.loop-p.invariant c.loop-p-test.true, (columns_roomy c.requires).c4, c.well_formed.1.0.1)
 
@@ -91,13 +91,13 @@ overflow_add-file c =
 pub loop-p-smaller : goal.loop-p-smaller
 loop-p-smaller c =
     let coming : NextFile c.args.s.now c.loop-p.p c.loop-p.invariant.left = next_file c.requires c.loop-p.invariant c.loop-p-test.true in
-    let given : c.fill-rows.result ≡ (let d = coming.says in record { count = length d.payments; sums = sums_of (totals d.payments); next = c.loop-p.p + length (write d) }) = rows_told c.requires c.loop-p.invariant c.loop-p-test.true c.fill-rows.ensures.answer in
+    let given : c.fill_file-rows.result ≡ (let d = coming.says in record { count = length d.payments; sums = sums_of (totals d.payments); next = c.loop-p.p + length (write d) }) = rows_told c.requires c.loop-p.invariant c.loop-p-test.true c.fill_file-rows.ensures.answer in
     let y = coming in
     let e = ap (λ (z : FileRows). z.next) given in
     omega (arith, e, y.behind.inside, y.some)
 
 pub loop-p-preserved : goal.loop-p-preserved
-loop-p-preserved c = medium_more c.requires c.loop-p.invariant c.loop-p-test.true (c.fill-rows.ensures.answer, (c.fill-rows.ensures.c4, (c.fill-rows.ensures.c5, (c.fill-rows.ensures.c12, c.fill-rows.ensures.start))))
+loop-p-preserved c = medium_more c.requires c.loop-p.invariant c.loop-p-test.true (c.fill_file-rows.ensures.answer, (c.fill_file-rows.ensures.c4, (c.fill_file-rows.ensures.c5, (c.fill_file-rows.ensures.c12, c.fill_file-rows.ensures.start))))
 
 pub shape_of-c4 : goal.shape_of-c4
 shape_of-c4 c = c.loop-p.invariant.bank_codes_left.long

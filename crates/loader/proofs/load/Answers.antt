@@ -18,4 +18,4 @@ fill-requires c =
 
 pub returns : goal.returns
 returns c =
-    let said = load_full _ _ _ _ _ c.check-checked.ensures c.if-checked-ne0.false (not-false _ c.if-not-roomy.false-raw) (c.fill.ensures.answer, (c.fill.ensures.c4, (c.fill.ensures.c5, (c.fill.ensures.c12, c.fill.ensures.start)))) in record { answer = said.0; c4 = said.1.0; c5 = said.1.1.0; c12 = said.1.1.1.0; start = said.1.1.1.1 }
+    let said = load_full _ _ _ _ _ c.check-checked.ensures c.if-checked-ne0.false (not-false _ c.if-not-roomy.false-raw) (c.fill.ensures.c4, (c.fill.ensures.c5, (c.fill.ensures.c12, c.fill.ensures.start))) in record { answer = said.0; c4 = said.1.0; c5 = said.1.1.0; c12 = said.1.1.1.0; start = said.1.1.1.1 }

@@ -4,7 +4,7 @@ use native.Mathlib.Omega.{arith}
 use borrow.Author.Tests.{ltb-false, leb-false}
 use Rattle.document.specs.Rules.{most_cents, sum_limit}
 use Rattle.sums.proofs.Laws.{accounts_within, accounts_over, bank_codes_within, bank_codes_over, cents_within, cents_over}
-use Rattle.loader.proofs.FillLaws.{same_sums}
+use Rattle.loader.proofs.FileFillLaws.{same_sums}
 use Rattle.loader.proofs.plus_payment.Goals as goal
 
 pub returns-in_default : goal.returns-in_default
