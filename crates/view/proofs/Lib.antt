@@ -1,3 +1,4 @@
+pub mod Walking
 pub mod MakeAndHand
 pub mod OneAnswer
 pub mod Promises
