@@ -3,7 +3,7 @@
 -- All rests on two facts of the form: what it says are the legal documents, written out (`document_says`), and every field that can be come to
 -- has a content (`document_viable`). With these the laws of all such forms (`RulesLaws`) give demand 3. What is said of number, place and totals
 -- then goes by the two cases of an answer.
-use Prim.Native.Nat.{ℕ, ◌+◌, ◌≤◌}
+use Prim.Native.Nat.{ℕ, ◌+◌}
 use mathlib.Core.Path.{◌≡◌, refl, sym, ap, subst, ◌∙◌}
 use mathlib.Core.Logic.{◌↔◌, ◌≢◌}
 use mathlib.Core.List.{List, ◌∷◌}
@@ -14,7 +14,6 @@ use Rattle.form.specs.Reader.{Refusal, Answer, accepted, refused}
 use Rattle.form.proofs.BoolLaws.{or_right}
 use Rattle.form.proofs.ReaderLaws.{place_inside}
 use Rattle.form.proofs.RulesLaws.{accepted_legal, legal_accepted, only_one, ahead_legal, through_none}
-use Rattle.verdict.specs.declared.Verdict.{Verdict}
 use Rattle.verdict.specs.Verdicts.{number_of, refused_as}
 use Rattle.verdict.specs.Numbers.{of_file}
 use Rattle.document.specs.Values.{Document, no_totals, totals}
