@@ -8,5 +8,6 @@ pub mod FileSays
 pub mod LayoutLaws
 pub mod Viability
 pub mod Numbers
+pub mod Refused
 pub mod Promises
 pub mod MediumPromises

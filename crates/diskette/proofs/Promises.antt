@@ -3,7 +3,7 @@
 -- All rests on two facts of the form: what it says are the legal documents, written out (`document_says`), and every field that can be come to
 -- has a content (`document_viable`). With these the laws of all such forms (`RulesLaws`) give demand 3. What is said of number, place and totals
 -- then goes by the two cases of an answer.
-use Prim.Native.Nat.{ℕ, ◌+◌, ◌≤◌}
+use Prim.Native.Nat.{ℕ, ◌+◌}
 use mathlib.Core.Path.{◌≡◌, refl, sym, ap, subst, ◌∙◌}
 use mathlib.Core.Logic.{◌↔◌, ◌≢◌}
 use mathlib.Core.List.{List, ◌∷◌}
@@ -14,7 +14,6 @@ use Rattle.form.specs.Reader.{Refusal, Answer, accepted, refused}
 use Rattle.form.proofs.BoolLaws.{or_right}
 use Rattle.form.proofs.ReaderLaws.{place_inside}
 use Rattle.form.proofs.RulesLaws.{accepted_legal, legal_accepted, only_one, ahead_legal, through_none}
-use Rattle.verdict.specs.declared.Verdict.{Verdict}
 use Rattle.verdict.specs.Verdicts.{number_of, refused_as}
 use Rattle.verdict.specs.Numbers.{of_file}
 use Rattle.document.specs.Values.{Document, no_totals, totals}
@@ -22,6 +21,7 @@ use Rattle.document.specs.Rules.{Legal}
 use Rattle.diskette.specs.Writing.{write, Acceptable, Begin}
 use Rattle.diskette.specs.Fields.{Name, document}
 use Rattle.diskette.specs.Answer.{answer, payments_of, outcome}
+pub use Rattle.diskette.proofs.Refused.{RefusedFile}
 use Rattle.diskette.proofs.FileSays.{document_says}
 use Rattle.diskette.proofs.Viability.{document_viable}
 use Rattle.diskette.proofs.Numbers.{file_number}
@@ -55,18 +55,6 @@ through_begins_none f r e n b =
     through_none document Legal write document_says f r (λ s. n (ap number_of s)) e b.0 b.1.0 b.1.1 b.1.2
 
 -- ---- demands 1 and 3: 0 exactly where the file is acceptable, and else the number and the place of the field that is wrong
-
--- What a file that is not acceptable is given, whichever call looks at it: one of the numbers of a file, a place in it or at its end, and both
--- halves of demand 3. The field is the one of the answer's own refusal, and the answer is a function of the file: so neither place nor width
--- is left to choose. With a width of one's own the second half would be met by place 0 and the whole file.
-pub record RefusedFile (f : List ℕ) (v : Verdict) : Type 0 where
-  pub refusal : Refusal Name
-  pub answered : answer f ≡ refused refusal
-  pub verdict : v ≡ refused_as refusal
-  pub number : T (one_of of_file v.number)
-  pub inside : v.place ≤ length f
-  pub ahead : Begin (take v.place f)
-  pub through : v.number ≢ 1 → ¬ Begin (take (v.place + refusal.width) f)
 
 refused_file : (f : List ℕ) (r : Refusal Name) → answer f ≡ refused r → RefusedFile f (refused_as r)
 unfolding answer
