@@ -31,12 +31,16 @@ class TestTests(unittest.TestCase):
         self.assertEqual(tested("n >= checked.count as usize"), "n-checked")
         self.assertEqual(tested("kind.customer & (v != 0)"), "kind-v")
         self.assertEqual(tested("!(columns & table)"), "not-columns-table")
+        self.assertEqual(tested("!(receiver & customer_ok(customer) & keys)"), "not-receiver-customer_ok")
+        self.assertEqual(tested("s[i] == z"), "s-i")
+        self.assertEqual(tested("(i == 2) | (i == 6)"), "i")
 
     def test_numbers(self) -> None:
         self.assertEqual(tested("checked.verdict.number != 0"), "checked-ne0")
         self.assertEqual(tested("v == 0"), "v-eq0")
         self.assertEqual(tested("k <= 2"), "k-le2")
         self.assertEqual(tested("yy < 80"), "yy-lt80")
+        self.assertEqual(tested("t[i] != b' '"), "t-i-ne32")
 
     def test_constants(self) -> None:
         self.assertEqual(tested("s.len() > LONGEST"), "s-gt-LONGEST")

@@ -19,7 +19,7 @@ END = re.compile("[;,]")
 COMPARED = re.compile(r" (==|!=|<=|>=|<|>) ")
 OPERATORS = {"==": "eq", "!=": "ne", "<=": "le", ">=": "ge", "<": "lt", ">": "gt"}
 CAST = re.compile(r" as \w+")
-BYTE = re.compile(r"b'.'")
+BYTE = re.compile(r"b'(.)'")
 NAME = re.compile(r"(?<![\w.])(?:\w+::)*([A-Za-z_]\w*)")
 LITERAL = re.compile(r"[\d_]+")
 CONSTANT = re.compile(r"(?:\w+::)*([A-Z][A-Z\d_]*)")
@@ -72,26 +72,25 @@ def variant(before: str) -> str:
 
 
 def spelled(condition: str) -> str:
-    """A condition as names of goals spell it: the names in it, and what one is compared with if that is no name."""
+    """A condition as names of goals spell it: by its first two names, and what those are compared with if that is no name."""
     if condition.startswith("!"):
         return f"not-{spelled(condition[1:])}"
     if re.fullmatch(r"\( *\)", outside(condition)):
         return spelled(condition[1:-1])
-    compared = COMPARED.search(outside(condition))
-    if not compared:
-        return "-".join(dict.fromkeys(roots(condition)))
-    left, right = condition[:compared.start()], condition[compared.end():]
-    operator = OPERATORS[compared[1]]
-    if LITERAL.fullmatch(right):
-        return "-".join([*roots(left), operator + right])
-    if constant := CONSTANT.fullmatch(right):
-        return "-".join([*roots(left), operator, constant[1]])
-    return "-".join([*roots(left), *roots(right)])
+    text = BYTE.sub(lambda byte: str(ord(byte[1])), condition)
+    compared = COMPARED.search(outside(text))
+    if compared and LITERAL.fullmatch(text, compared.end()):
+        with_what = [OPERATORS[compared[1]] + text[compared.end():]]
+    elif compared and (constant := CONSTANT.fullmatch(text, compared.end())):
+        with_what = [OPERATORS[compared[1]], constant[1]]
+    else:
+        with_what = []
+    return "-".join([*list(dict.fromkeys(roots(text)))[:2], *with_what])
 
 
 def roots(expression: str) -> Iterator[str]:
     """The variables and the functions that an expression begins its parts with; no constants, and no arguments."""
-    text = BYTE.sub("", CAST.sub("", expression))
+    text = CAST.sub("", expression)
     at = 0
     while found := NAME.search(text, at):
         at = found.end()
