@@ -9,6 +9,8 @@ from .reading import miscounted
 README = "README.md"
 COLUMNS = 120
 COLUMNS_OF_README = 100
+# Markdown has no way to break a row of a table.
+COLUMNS_OF_ROW = 150
 BUILT = "target"
 
 
@@ -17,7 +19,8 @@ def judge(root: Path) -> dict[str, list[str]]:
     judged = {}
     for document in documents(root):
         name = str(document.relative_to(root))
-        judged[f"{name}: width"] = too_long(document, COLUMNS_OF_README if name == README else COLUMNS)
+        limits = (COLUMNS_OF_README, COLUMNS_OF_README) if name == README else (COLUMNS, COLUMNS_OF_ROW)
+        judged[f"{name}: width"] = too_long(document, *limits)
         judged[f"{name}: links"] = broken_links(document)
         judged[f"{name}: paths"] = missing_paths(document, root)
     judged[f"{README}: reading list"] = miscounted(root / README, root)
@@ -31,7 +34,8 @@ def documents(root: Path) -> Iterator[Path]:
             yield document
 
 
-def too_long(document: Path, columns: int) -> list[str]:
-    """The lines of more than so many columns."""
+def too_long(document: Path, columns: int, columns_of_row: int) -> list[str]:
+    """The lines of more than so many columns, and the rows of tables."""
     lines = enumerate(document.read_text().splitlines(), start=1)
-    return [f"line {n} has {len(line)} columns" for n, line in lines if len(line) > columns]
+    return [f"line {n} has {len(line)} columns" for n, line in lines
+            if len(line) > (columns_of_row if line.startswith("|") else columns)]

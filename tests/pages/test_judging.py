@@ -45,6 +45,11 @@ class Documents(unittest.TestCase):
         self.assertEqual(self.faults(other=OTHER.replace("Text.", "x" * 120)), ["7 passed, 0 failed"])
         self.assert_fault("docs/OTHER.md: width: line 3 has 121 columns", other=OTHER.replace("Text.", "x" * 121))
 
+    def test_a_row_of_151_columns(self) -> None:
+        row = "| " + "x" * 146 + " |"
+        self.assertEqual(self.faults(other=OTHER.replace("Text.", row)), ["7 passed, 0 failed"])
+        self.assert_fault("docs/OTHER.md: width: line 3 has 151 columns", other=OTHER.replace("Text.", f"|{row}"))
+
     def test_a_line_of_the_readme_of_101_columns(self) -> None:
         self.assertEqual(self.faults(README + "x" * 100), ["7 passed, 0 failed"])
         self.assert_fault("README.md: width: line 11 has 101 columns", README + "x" * 101)

@@ -1,16 +1,14 @@
-"""The functions of the crates: what they call, what each way out gives, and the facts that prove them."""
+"""The functions of the crates: what they call, and what each way out gives."""
 
 import re
 from pathlib import Path
 
 from statements.calls import functions_of
-from statements.equations import outside
 from statements.sources import HEAD, read_sources
 
+from .ways import ways_out
+
 CONSTANT = re.compile(r"^(?:pub )?const (\w+): u8 = (\d+);", re.MULTILINE)
-FACT = re.compile(r"returns(?:-(\d+))?")
-# Where a `return` ends; as an arm of a `match` it has a comma.
-END = re.compile("[;,]")
 
 
 class Functions:
@@ -36,31 +34,19 @@ class Functions:
         named = rf"(?:{crate}::)?{rest}" if caller.startswith(f"{crate}::") else called
         return bool(re.search(rf"(?<![\w:.]){named}\(", self.texts.get(caller, "")))
 
-    def proof(self, path: str) -> Path:
-        crate, *rest = path.split("::")
-        return self.root.joinpath("crates", crate, "proofs", *rest, "Proof.antt")
-
     def has_fact(self, path: str, fact: str) -> bool:
-        """Whether the function's proof has a fact of this name."""
-        proof = self.proof(path)
-        return proof.is_file() and bool(re.search(rf"^{re.escape(fact)} :", proof.read_text(), re.MULTILINE))
+        """Whether a way out of the function is proved by a goal of this name."""
+        return fact in self.ways(path)
 
     def gives(self, path: str, fact: str) -> set[int]:
         """The numbers that stand at the way out which a fact is of."""
-        named = re.findall(r"\b[A-Z][A-Z_]+\b", self.way_out(path, fact))
+        named = re.findall(r"\b[A-Z][A-Z_]+\b", self.ways(path).get(fact, ""))
         return {self.constants[name] for name in named if name in self.constants}
 
     def hands_on(self, path: str, fact: str) -> bool:
         """Whether the function hands on there what another one refused."""
-        return "Refused(" in self.way_out(path, fact) and not self.gives(path, fact)
+        return "Refused(" in self.ways(path).get(fact, "") and not self.gives(path, fact)
 
-    def way_out(self, path: str, fact: str) -> str:
-        """The way out that a fact is of. The facts follow the `return`s, then what the function ends with."""
-        _, *ways = re.split(r"\breturn\b", self.texts.get(path, ""))
-        found = FACT.fullmatch(fact)
-        if not found or not ways:
-            return ""
-        turn = int(found[1] or 1)
-        way = ways[min(turn, len(ways)) - 1]
-        end = END.search(outside(way) + ";").start()
-        return way[:end] if turn <= len(ways) else way[end + 1:]
+    def ways(self, path: str) -> dict[str, str]:
+        """The ways out of a function, by the facts that they are proved as."""
+        return ways_out(self.texts.get(path, ""))

@@ -52,12 +52,12 @@ class Section:
 
     @property
     def name(self) -> str:
-        """The field's name in the tree, or the number."""
-        return self.title.replace(" ", "-")
+        """The field's name in the tree, where several words are one in small letters, or the number."""
+        return self.title.replace(" ", "_").lower() if " " in self.title else self.title
 
     @property
     def anchor(self) -> str:
-        return self.name.lower()
+        return self.title.replace(" ", "-").lower()
 
     @property
     def rows(self) -> list[Row]:

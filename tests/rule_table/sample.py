@@ -3,68 +3,68 @@
 TREE = """-- the names of the fields
 pub data Name : Type 0 where
   A1 A2 : Name
-  C1-or-E1 : Name  -- one field until its value tells which
+  c1_or_e1 : Name  -- one field until its value tells which
   mark closing : ℕ → Name
   E2 : Name
 
 abbrev pub must : Name → List ℕ → Form Name (Value (fixed []))
 must ν bs = any ν (fixed bs)
 
-abbrev pub dateNumber : DateCase → ℕ
-dateNumber no-such-day = 10
-dateNumber too-late = 23
+abbrev pub date_number : DateCase → ℕ
+date_number no-such-day = 10
+date_number too-late = 23
 
-abbrev pub dayRules : ℕ → List Rule
-dayRules n = rule 10 (isDay n) ∷ rule (dateNumber no-such-day) (isYear n) ∷ rule (dateNumber too-late) (inSpan n) ∷ []
+abbrev pub day_rules : ℕ → List Rule
+day_rules n = rule 10 (is_day n) ∷ rule (date_number no-such-day) (is_year n) ∷ rule (date_number too-late) (in_span n) ∷ []
 
-abbrev pub rulesA2 : Option ℕ → List Rule
-rulesA2 none = []
-rulesA2 (some n) = dayRules n
+abbrev pub rules_a2 : Option ℕ → List Rule
+rules_a2 none = []
+rules_a2 (some n) = day_rules n
 
 abbrev pub header : Form Name Header
 header = do
   must A1 (ascii "0128")
-  day ← get A2 (maybe 8) rulesA2
+  day ← get A2 (maybe 8) rules_a2
   ret day
 
 abbrev pub two : Kind
 two = digits 2
 
-abbrev pub closingBlanks : ℕ → Form Name (Value (fixed []))
-closingBlanks n = must (closing n) (blanks (suc n))
+abbrev pub closing_blanks : ℕ → Form Name (Value (fixed []))
+closing_blanks n = must (closing n) (blanks (suc n))
 
 abbrev pub parts : ℕ → Form Name (List Part)
 parts i = do
   m ← any (mark (suc i)) two
-  closingBlanks i
+  closing_blanks i
 
 abbrev pub figure : ℕ → ℕ → List Rule
 figure counted v = rule 14 (eqb v counted) ∷ []
 
 abbrev pub end : Form Name (List Payment)
 end = do
-  get E2 (digits 7) (figure (t .count))
+  get E2 (digits 7) (figure t.count)
   ret []
 
 -- the rules of a length
-abbrev pub firstField : ℕ → List Rule
-firstField l =
-    rule 5 (isLength l)
+abbrev pub first_field : ℕ → List Rule
+first_field l =
+    rule 5 (is_length l)
     ∷ rule 6 (ltb l most)
     ∷ []
 
 unfoldable pub payments : Form Name (List Payment)
 payments = do
-  l ← get C1-or-E1 (digits 4) firstField
+  l ← get c1_or_e1 (digits 4) first_field
   fork (eqb l 128) end (parts 0)
 """
-READER = """abbrev pub ifWhole : Bool → Look X → Look X
-ifWhole true l = l
-ifWhole false l = lacks short
+READER = """abbrev pub if_whole : Bool → Look X → Look X
+if_whole true l = l
+if_whole false l = lacks short
 
 abbrev pub optional : Bool → List ℕ → Look (Option ℕ)
 optional true f = has none
-optional false f = ifSo (every digit f) (some f) not-digit
+optional false f = if_so (every digit f) (some f) not_digit
 
 abbrev pub same : List ℕ → List ℕ → Bool
 same bs f = true
@@ -73,48 +73,48 @@ abbrev pub digit : ℕ → Bool
 digit b = true
 
 unfoldable pub judge : (κ : Kind) → List ℕ → Look (Value κ)
-judge (fixed bs) f = ifSo (same bs f) tt not-fixed
-judge (digits w) f = ifSo (every digit f) f not-digit
+judge (fixed bs) f = if_so (same bs f) tt not_fixed
+judge (digits w) f = if_so (every digit f) f not_digit
 judge (maybe w) f = optional (same (blanks w) f) f
 
 abbrev pub look : (κ : Kind) → List ℕ → Look (Value κ)
-look κ f = ifWhole (leb (width κ) (length f)) (judge κ f)
+look κ f = if_whole (leb (width κ) (length f)) (judge κ f)
 """
 RULES_OF_VALUES = """abbrev pub most : ℕ
 most = 9
 
-unfoldable pub isDay : ℕ → Bool
-isDay n = true
+unfoldable pub is_day : ℕ → Bool
+is_day n = true
 
-abbrev pub isYear : ℕ → Bool
-isYear n = true
+abbrev pub is_year : ℕ → Bool
+is_year n = true
 
-abbrev pub inSpan : ℕ → Bool
-inSpan n = true
+abbrev pub in_span : ℕ → Bool
+in_span n = true
 
-abbrev pub isLength : ℕ → Bool
-isLength l = true
+abbrev pub is_length : ℕ → Bool
+is_length l = true
 """
-VERDICTS = """unfoldable pub numberOf : Reason → ℕ
-numberOf short = 1
-numberOf not-fixed = 2
-numberOf not-digit = 3
-numberOf (breaks n) = n
+VERDICTS = """unfoldable pub number_of : Reason → ℕ
+number_of short = 1
+number_of not_fixed = 2
+number_of not_digit = 3
+number_of (breaks n) = n
 """
 LIMITS = """unfoldable pub limits : List Limit
 limits = record { bytes = paymentM; number = 6; place = 0 } ∷ []
 
-pub limits-hold : map reached limits ≡ map stated limits
-limits-hold = refl
+pub limits_hold : map reached limits ≡ map stated limits
+limits_hold = refl
 """
-ROOM = """abbrev pub noRoom : Verdict
-noRoom = refusing 16 0
+ROOM = """abbrev pub no_room : Verdict
+no_room = refusing 16 0
 
-abbrev pub ifRoom : Bool → Verdict
-ifRoom false = noRoom
+abbrev pub if_room : Bool → Verdict
+if_room false = no_room
 
-pub no-room : ifRoom false ≡ noRoom
-no-room = refl
+pub no_room_given : if_room false ≡ no_room
+no_room_given = refl
 """
 REFUSALS_OF_CODE = """pub const SHORT: u8 = 1;
 pub const NOT_FIXED: u8 = 2;
@@ -248,35 +248,35 @@ Tested by `fields::fixed_at`, called in `checker::file_at`.
 
 | no. | the requirements | rule | proved as | case | wrong edit |
 |---|---|---|---|---|---|
-| 1 | the file ends before it is whole | `ifWhole` | `returns` | `cut 3` | `last_field_is_short` |
-| 2 | not `0128` | `same` | `returns-2` | `3=X` | `fixed_bytes_not_compared` |
+| 1 | the file ends before it is whole | `if_whole` | `returns-then-not-whole` | `cut 3` | `last_field_is_short` |
+| 2 | not `0128` | `same` | `returns-then-not-same` | `3=X` | `fixed_bytes_not_compared` |
 
 ### A2
 
-`day ← get A2 (maybe 8) rulesA2`, 8 bytes at 4.
+`day ← get A2 (maybe 8) rules_a2`, 8 bytes at 4.
 Tested by `checker::day_at`, called in `checker::file_at`.
 
 | no. | the requirements | rule | proved as | case | wrong edit |
 |---|---|---|---|---|---|
-| 1 | the file ends before it is whole | `ifWhole` | `returns-5` | `cut 11` | `last_field_is_short` |
-| 3 | a byte is no digit | `optional` | `returns-5` | `11=X` | `last_field_is_short` |
-| 10 | no date | `isDay` | `returns` | `4=30022004` | `last_field_is_short` |
-| 10 | no year | `isYear` | `returns-2` | `4=15030000` | `last_field_is_short` |
-| 23 | too late | `inSpan` | `returns-3` | `4=31032004` | `last_field_is_short` |
+| 1 | the file ends before it is whole | `if_whole` | `returns-in-Refused` | `cut 11` | `last_field_is_short` |
+| 3 | a byte is no digit | `optional` | `returns-in-Refused` | `11=X` | `last_field_is_short` |
+| 10 | no date | `is_day` | `returns-then-not-is_day` | `4=30022004` | `last_field_is_short` |
+| 10 | no year | `is_year` | `returns-in-NoYear` | `4=15030000` | `last_field_is_short` |
+| 23 | too late | `in_span` | `returns-in-TooLate` | `4=31032004` | `last_field_is_short` |
 
 ## C
 
 ### C1 or E1
 
-`l ← get C1-or-E1 (digits 4) firstField`, 4 bytes at 0.
+`l ← get c1_or_e1 (digits 4) first_field`, 4 bytes at 0.
 Tested by `checker::length_at`, called in `checker::file_at`.
 
 | no. | the requirements | rule | proved as | case | wrong edit |
 |---|---|---|---|---|---|
-| 1 | the file ends before it is whole | `ifWhole` | `returns` | `cut 130` | `last_field_is_short` |
-| 3 | a byte is no digit | `digit` | `returns` | `387=X` | `last_field_is_short` |
-| 5 | no length | `isLength` | `returns-2` | `cents 7` | `last_field_is_short` |
-| 6 | too many | `most` | `returns-3` | claim `limits-hold` | `last_field_is_short` |
+| 1 | the file ends before it is whole | `if_whole` | `returns-in_default` | `cut 130` | `last_field_is_short` |
+| 3 | a byte is no digit | `digit` | `returns-in_default` | `387=X` | `last_field_is_short` |
+| 5 | no length | `is_length` | `returns-then-not-is_length` | `cents 7` | `last_field_is_short` |
+| 6 | too many | `most` | `returns-then-l-ge-MOST` | claim `limits_hold` | `last_field_is_short` |
 
 ### mark
 
@@ -285,30 +285,30 @@ Tested by `fields::number_at`, called in `checker::file_at`.
 
 | no. | the requirements | rule | proved as | case | wrong edit |
 |---|---|---|---|---|---|
-| 1 | the file ends before it is whole | `ifWhole` | `returns` | `cut 133` | `last_field_is_short` |
-| 3 | a byte is no digit | `digit` | `returns-2` | `133=X` | `last_field_is_short` |
+| 1 | the file ends before it is whole | `if_whole` | `returns-then-not-whole` | `cut 133` | `last_field_is_short` |
+| 3 | a byte is no digit | `digit` | `returns-in_default` | `133=X` | `last_field_is_short` |
 
 ### closing
 
-`closingBlanks n = must (closing n) (blanks (suc n))`, at 6 behind one part.
+`closing_blanks n = must (closing n) (blanks (suc n))`, at 6 behind one part.
 Tested by `fields::fixed_at`, called through `fields::blanks_at` in
 `checker::file_at`.
 
 | no. | the requirements | rule | proved as | case | wrong edit |
 |---|---|---|---|---|---|
-| 1 | the file ends before it is whole | `ifWhole` | `returns` | `cut 135` | `last_field_is_short` |
-| 2 | not blanks | `same` | `returns-2` | `135=X` | `fixed_bytes_not_compared` |
+| 1 | the file ends before it is whole | `if_whole` | `returns-then-not-whole` | `cut 135` | `last_field_is_short` |
+| 2 | not blanks | `same` | `returns-then-not-same` | `135=X` | `fixed_bytes_not_compared` |
 
 ### E2
 
-`get E2 (digits 7) (figure (t .count))`, 7 bytes at 4.
+`get E2 (digits 7) (figure t.count)`, 7 bytes at 4.
 Tested by `checker::figure_at`, called in `checker::file_at`.
 
 | no. | the requirements | rule | proved as | case | wrong edit |
 |---|---|---|---|---|---|
-| 1 | the file ends before it is whole | `ifWhole` | `returns` | `cut 390` | `last_field_is_short` |
-| 3 | a byte is no digit | `digit` | `returns` | `390=X` | `last_field_is_short` |
-| 14 | not the counted figure | `figure` | `returns-2` | `390=1` | `last_field_is_short` |
+| 1 | the file ends before it is whole | `if_whole` | `returns-in_default` | `cut 390` | `last_field_is_short` |
+| 3 | a byte is no digit | `digit` | `returns-in_default` | `390=X` | `last_field_is_short` |
+| 14 | not the counted figure | `figure` | `returns-then-v-counted` | `390=1` | `last_field_is_short` |
 
 ## Numbers that no field gives
 
@@ -318,13 +318,13 @@ By one program. Tested by `checker::check`.
 
 | no. | the requirements | rule | proved as | case | wrong edit |
 |---|---|---|---|---|---|
-| 16 | no room | `ifRoom` | `returns` | `dtmake, lines` | `last_field_is_short` |
+| 16 | no room | `if_room` | `returns-then-out-lt6` | `dtmake, lines` | `last_field_is_short` |
 
 By another. Tested by `checker::check`.
 
 | no. | the requirements | rule | proved as | case | wrong edit |
 |---|---|---|---|---|---|
-| 16 | no room | `ifRoom` | `returns` | claim `no-room` | `fixed_bytes_not_compared` |
+| 16 | no room | `if_room` | `returns-then-out-lt6` | claim `no_room_given` | `fixed_bytes_not_compared` |
 """
 REFUSALS = """# Refusals
 
@@ -370,12 +370,6 @@ Rules: [A2](RULES.md#a2).
 """
 
 
-def proof(facts: int) -> str:
-    """A proof with so many facts about ways out."""
-    names = ["returns", *(f"returns-{n}" for n in range(2, facts + 1))]
-    return "\n\n".join(f"{name} : tie.Need-{name}\n{name} c = search needs" for name in names)
-
-
 FILES = {
     "crates/diskette/specs/Fields.antt": TREE,
     "crates/diskette/specs/Limits.antt": LIMITS,
@@ -386,12 +380,6 @@ FILES = {
     "crates/fields/src/refusals.rt": REFUSALS_OF_CODE,
     "crates/fields/src/lib.rt": FIELDS,
     "crates/checker/src/lib.rt": CHECKER,
-    "crates/fields/proofs/fixed_at/Proof.antt": proof(3),
-    "crates/fields/proofs/number_at/Proof.antt": proof(3),
-    "crates/checker/proofs/day_at/Proof.antt": proof(5),
-    "crates/checker/proofs/length_at/Proof.antt": proof(4),
-    "crates/checker/proofs/figure_at/Proof.antt": proof(3),
-    "crates/checker/proofs/check/Proof.antt": proof(2),
     "crates/fields/must-fail/last_field_is_short.edit": "",
     "crates/fields/must-fail/fixed_bytes_not_compared.edit": "",
     "tests/cases.txt": CASES,

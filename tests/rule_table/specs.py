@@ -5,7 +5,7 @@ from functools import cached_property
 from pathlib import Path
 
 DECLARED = re.compile(r"^(?:(?:abbrev|unfoldable) )?(?:pub )?([^\s:]+) :", re.MULTILINE)
-NUMBER_OF = re.compile(r"^numberOf ([\w-]+) = (\d+)", re.MULTILINE)
+NUMBER_OF = re.compile(r"^number_of ([\w-]+) = (\d+)", re.MULTILINE)
 REFUSING = re.compile(r"\brefusing (\d+)\b")
 # A comment, with its line where nothing else stands there.
 COMMENT = re.compile(r"^ *--[^\n]*\n| +--[^\n]*", re.MULTILINE)
@@ -32,7 +32,7 @@ class Specs:
     @cached_property
     def numbers(self) -> dict[str, int]:
         """The number of each reason that a reader refuses for, but of a broken rule."""
-        return {reason: int(number) for reason, number in NUMBER_OF.findall(self.definition("numberOf"))}
+        return {reason: int(number) for reason, number in NUMBER_OF.findall(self.definition("number_of"))}
 
     def definition(self, name: str) -> str:
         return self.definitions.get(name, "")

@@ -11,11 +11,11 @@ from .sample import FILES, PAGE
 
 TREE = "crates/diskette/specs/Fields.antt"
 TABLE = "docs/RULES.md"
-ROW_OF_2 = "| 2 | not `0128` | `same` | `returns-2` | `3=X` | `fixed_bytes_not_compared` |\n"
-ROW_OF_5 = "| 5 | no length | `isLength` | `returns-2` | `cents 7` | `last_field_is_short` |\n"
-ROW_OF_23 = "| 23 | too late | `inSpan` | `returns-3` | `4=31032004` | `last_field_is_short` |\n"
-ROW_OF_6 = "| 6 | too many | `most` | `returns-3` | claim `limits-hold` | `last_field_is_short` |\n"
-A1_WITH_2 = f"{TREE}: A1 with 2, ifSo (same bs f) tt not-fixed"
+ROW_OF_2 = "| 2 | not `0128` | `same` | `returns-then-not-same` | `3=X` | `fixed_bytes_not_compared` |\n"
+ROW_OF_5 = "| 5 | no length | `is_length` | `returns-then-not-is_length` | `cents 7` | `last_field_is_short` |\n"
+ROW_OF_23 = "| 23 | too late | `in_span` | `returns-in-TooLate` | `4=31032004` | `last_field_is_short` |\n"
+ROW_OF_6 = "| 6 | too many | `most` | `returns-then-l-ge-MOST` | claim `limits_hold` | `last_field_is_short` |\n"
+A1_WITH_2 = f"{TREE}: A1 with 2, if_so (same bs f) tt not_fixed"
 
 
 class RulesTest(unittest.TestCase):
@@ -65,11 +65,11 @@ class TestDemands(RulesTest):
         )
 
     def test_rows_out_of_order(self) -> None:
-        fault = f"{TREE}: C1-or-E1 with 6, (ltb l most): its row in {TABLE} stands too early"
+        fault = f"{TREE}: c1_or_e1 with 6, (ltb l most): its row in {TABLE} stands too early"
         self.assert_faults(TABLE, ROW_OF_5 + ROW_OF_6, ROW_OF_6 + ROW_OF_5, fault)
 
     def test_a_number_that_the_field_cannot_be_refused_with(self) -> None:
-        row = ROW_OF_2 + "| 3 | a byte | `digit` | `returns-2` | `3=X` | `last_field_is_short` |\n"
+        row = ROW_OF_2 + "| 3 | a byte | `digit` | `returns-then-not-same` | `3=X` | `last_field_is_short` |\n"
         self.assert_faults(
             TABLE, ROW_OF_2, row, f"{TABLE}:14: the tree does not refuse A1 with 3, or not so often",
             "docs/REFUSALS.md: 3: no link to RULES.md#a1",
@@ -82,10 +82,10 @@ class TestDemands(RulesTest):
 
     def test_a_number_that_a_case_is_given_otherwise(self) -> None:
         reported = self.reported(TREE, "too-late = 23", "too-late = 22")
-        self.assertIn(f"{TREE}: A2 with 22, (inSpan n): {TABLE} has no row for it", reported)
+        self.assertIn(f"{TREE}: A2 with 22, (in_span n): {TABLE} has no row for it", reported)
 
     def test_a_number_that_the_reader_gives_otherwise(self) -> None:
-        reported = self.reported("crates/verdict/specs/Verdicts.antt", "not-fixed = 2", "not-fixed = 7")
+        reported = self.reported("crates/verdict/specs/Verdicts.antt", "not_fixed = 2", "not_fixed = 7")
         self.assertIn(f"{A1_WITH_2.replace('2', '7')}: {TABLE} has no row for it", reported)
 
 
@@ -154,23 +154,24 @@ class TestRows(RulesTest):
         self.assert_row_fault("`same`", "`equal`", "equal is defined nowhere in specs/")
 
     def test_a_rule_that_does_not_stand_there(self) -> None:
-        self.assert_row_fault("`same`", "`digit`", "digit does not stand in ifSo (same bs f) tt not-fixed")
-        self.assert_row_fault("`most`", "`isLength`", "isLength does not stand in (ltb l most)", ROW_OF_6)
-        self.assert_row_fault("`most`", "`firstField`", "firstField does not stand in (ltb l most)", ROW_OF_6)
+        self.assert_row_fault("`same`", "`digit`", "digit does not stand in if_so (same bs f) tt not_fixed")
+        self.assert_row_fault("`most`", "`is_length`", "is_length does not stand in (ltb l most)", ROW_OF_6)
+        self.assert_row_fault("`most`", "`first_field`", "first_field does not stand in (ltb l most)", ROW_OF_6)
 
     def test_a_fact_that_the_proof_has_not(self) -> None:
-        fault = "returns-4 is no fact in the proof of fields::fixed_at"
-        self.assert_row_fault("`returns-2`", "`returns-4`", fault)
+        for fact in ("returns-then-same", "returns-then-not-same-2", "returns-in_default"):
+            fault = f"{fact} is no fact in the proof of fields::fixed_at"
+            self.assert_row_fault("returns-then-not-same", fact, fault)
 
     def test_a_fact_of_another_way_out(self) -> None:
         fault = "fields::fixed_at does not give 2 where {} is proved"
-        self.assert_row_fault("`returns-2`", "`returns`", fault.format("returns"))
-        self.assert_row_fault("`returns-2`", "`returns-3`", fault.format("returns-3"))
+        for fact in ("returns-then-not-whole", "returns"):
+            self.assert_row_fault("returns-then-not-same", fact, fault.format(fact))
         fault = "checker::day_at does not give 23 where {} is proved"
-        self.assert_row_fault("`returns-3`", "`returns-2`", fault.format("returns-2"), ROW_OF_23)
-        self.assert_row_fault("`returns-3`", "`returns-4`", fault.format("returns-4"), ROW_OF_23)
-        fault = "checker::length_at does not give 6 where returns is proved"
-        self.assert_row_fault("`returns-3`", "`returns`", fault, ROW_OF_6)
+        for fact in ("returns-in-NoYear", "returns-in-InOrder"):
+            self.assert_row_fault("returns-in-TooLate", fact, fault.format(fact), ROW_OF_23)
+        fault = "checker::length_at does not give 6 where returns-in_default is proved"
+        self.assert_row_fault("returns-then-l-ge-MOST", "returns-in_default", fault, ROW_OF_6)
 
     def test_a_case_that_is_not_there(self) -> None:
         self.assert_row_fault("`3=X`", "`3=Y`", "3=Y is no case of tests/cases.txt")
@@ -184,8 +185,8 @@ class TestRows(RulesTest):
 
     def test_a_claim_that_does_not_state_it(self) -> None:
         fault = "no claim {} in specs/ has 6 at 0 of a payment"
-        self.assert_row_fault("limits-hold", "limits-held", fault.format("limits-held"), ROW_OF_6)
-        self.assert_row_fault("limits-hold", "no-room", fault.format("no-room"), ROW_OF_6)
+        self.assert_row_fault("limits_hold", "limits-held", fault.format("limits-held"), ROW_OF_6)
+        self.assert_row_fault("limits_hold", "no_room_given", fault.format("no_room_given"), ROW_OF_6)
 
     def test_an_edit_that_is_not_there(self) -> None:
         self.assert_row_fault("`fixed_bytes_not_compared`", "`fixed_bytes`", "there is no edit fixed_bytes")
@@ -194,7 +195,7 @@ class TestRows(RulesTest):
 class TestNumbers(RulesTest):
     """The rows of a number that no field gives."""
 
-    ROW = "| 16 | no room | `ifRoom` | `returns` | claim `no-room` | `fixed_bytes_not_compared` |\n"
+    ROW = "| 16 | no room | `if_room` | `returns-then-out-lt6` | claim `no_room_given` | `fixed_bytes_not_compared` |\n"
 
     def test_another_number(self) -> None:
         self.assert_faults(
@@ -203,19 +204,19 @@ class TestNumbers(RulesTest):
         )
 
     def test_a_rule_that_gives_another_number(self) -> None:
-        self.assert_row_fault("`ifRoom`", "`ifWhole`", "no definition ifWhole in specs/ gives 16", self.ROW)
-        self.assert_row_fault("`ifRoom`", "`ifSpace`", "no definition ifSpace in specs/ gives 16", self.ROW)
+        self.assert_row_fault("`if_room`", "`if_whole`", "no definition if_whole in specs/ gives 16", self.ROW)
+        self.assert_row_fault("`if_room`", "`ifSpace`", "no definition ifSpace in specs/ gives 16", self.ROW)
 
     def test_a_fact_of_another_way_out(self) -> None:
-        fault = "checker::check does not give 16 where returns-2 is proved"
-        self.assert_row_fault("`returns`", "`returns-2`", fault, self.ROW)
+        fault = "checker::check does not give 16 where returns is proved"
+        self.assert_row_fault("returns-then-out-lt6", "returns", fault, self.ROW)
 
     def test_a_claim_of_another_crate(self) -> None:
-        fault = "there is no claim limits-hold in crates/checker/specs"
-        self.assert_row_fault("`no-room`", "`limits-hold`", fault, self.ROW)
+        fault = "there is no claim limits_hold in crates/checker/specs"
+        self.assert_row_fault("`no_room_given`", "`limits_hold`", fault, self.ROW)
 
     def test_a_case_with_another_number(self) -> None:
-        row = "| 16 | no room | `ifRoom` | `returns` | `dtmake, lines` | `last_field_is_short` |\n"
+        row = "| 16 | no room | `if_room` | `returns-then-out-lt6` | `dtmake, lines` | `last_field_is_short` |\n"
         self.assert_row_fault("`dtmake, lines`", "`cut 3`", "cut 3 is answered with 1 0", row)
 
 

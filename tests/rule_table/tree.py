@@ -18,11 +18,11 @@ RULE = re.compile(r"\brule (?:(\d+)|\((\w+) ([\w-]+)\)) (?=\()")
 
 # The record that each form of the tree is of, and where the record begins in case M. The first field of a C
 # is also that of E.
-RECORD = {"header": "A", "payments": "C", "payment": "C", "parts": "C", "closingBlanks": "C", "end": "E"}
+RECORD = {"header": "A", "payments": "C", "payment": "C", "parts": "C", "closing_blanks": "C", "end": "E"}
 FIRST = "payments"
 STARTS = {"A": 0, "C": 128, "E": 384}
 # The definitions by which the reader of forms looks at a field, whatever its rules.
-WHOLE, BYTES = "ifWhole", "judge"
+WHOLE, BYTES = "if_whole", "judge"
 
 
 @dataclass(frozen=True)

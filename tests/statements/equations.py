@@ -1,34 +1,29 @@
-"""What a contract gives by equations: the result by `r ≡ X`, a lent slice by `now (out .exit) ≡ X`."""
+"""What a contract gives by equations: the result by `result ≡ X`, a lent slice by `out.new ≡ X`."""
 
 import re
 
-CLAUSE = re.compile(r"\s*λ +(\S+)\.\s*⌜(.*)⌝\s*", re.DOTALL)
-EXIT = re.compile(r"now \((\w+) \.exit\)")
+RESULT = "result"
+# What a slice holds afterwards.
+NEW = re.compile(r"(\w+)\.new")
 # Signs that make something else of an equation.
 OTHER_SIGNS = set("≡×→↔⊎")
 
 
 def result_is_given(clauses: tuple[str, ...]) -> bool:
-    """Whether the result is equal to what speaks neither of it nor of the exit."""
-    for clause in clauses:
-        result, sides = read_clause(clause)
-        for left, right in sides:
-            if left == result and not speaks_of(result, right) and not speaks_of("exit", right):
-                return True
-    return False
+    """Whether the result is equal to what speaks neither of it nor of what a slice holds afterwards."""
+    return any(left == RESULT and not speaks_of(RESULT, right) and not speaks_of("new", right)
+               for left, right in sides_of(clauses))
 
 
 def given_slices(clauses: tuple[str, ...]) -> set[str]:
-    """The slices that at the exit are equal to what does not speak of it; the result it may speak of."""
-    sides = [side for clause in clauses for side in read_clause(clause)[1]]
-    exits = [EXIT.fullmatch(left) for left, right in sides if not speaks_of("exit", right)]
-    return {match[1] for match in exits if match}
+    """The slices that hold afterwards what does not speak of that; the result it may speak of."""
+    found = [NEW.fullmatch(left) for left, right in sides_of(clauses) if not speaks_of("new", right)]
+    return {match[1] for match in found if match}
 
 
-def read_clause(clause: str) -> tuple[str, list[tuple[str, str]]]:
-    """The name that a clause has for the result, and the sides of the equations that it is a product of."""
-    match = CLAUSE.fullmatch(clause)
-    return (match[1], equations(factors(match[2]))) if match else ("", [])
+def sides_of(clauses: tuple[str, ...]) -> list[tuple[str, str]]:
+    """The sides of the equations that the clauses are products of."""
+    return [sides for clause in clauses for sides in equations(factors(clause))]
 
 
 def equations(parts: list[str]) -> list[tuple[str, str]]:

@@ -13,20 +13,20 @@ RIGHT = """
 pub struct Pair { pub n: u64 }
 
 pub fn twice(n: u64) -> u64
-    ensures { λ r. ⌜ r ≡ (n + n) ⌝ }
+    ensures { result ≡ (n + n) }
 {
     n + n
 }
 
 pub fn fill<'a>(file: &'a [u8], out: &mut [u8], rows: &'a mut [u64]) -> u64
-    ensures { λ r. ⌜ (r ≡ length (now (out .entry))) × (now (out .exit) ≡ drop r (now (out .entry))) ⌝ }
-    ensures rows { λ _. ⌜ now (rows .exit) ≡ now (rows .entry) ⌝ }
+    ensures { (result ≡ length out.old) × (out.new ≡ drop result out.old) }
+    ensures rows { rows.new ≡ rows.old }
 {
     0
 }
 
 fn inside(n: u64) -> u64
-    requires { ⌜ n ≤ 5 ⌝ }
+    requires { n ≤ 5 }
 {
     n
 }
@@ -38,13 +38,13 @@ pub(crate) fn within(n: u64) -> u64
 """
 # A module of the crate, whose function has its signature in several lines and is for C.
 EXPORTED = """
-#[no_mangle]
+#[unsafe(no_mangle)]
 pub extern "C" fn exported(
     file: &[u8],
     out: &mut [u8],
 ) -> u8
-    ensures number { λ r. ⌜ r ≡ numberOf (now (file .entry)) ⌝ }
-    ensures out { λ _. ⌜ now (out .exit) ≡ now (file .entry) ⌝ }
+    ensures number { result ≡ number_of file.now }
+    ensures out { out.new ≡ file.now }
 {
     0
 }
@@ -68,7 +68,7 @@ CALL = "fn main() { wrong::call(1, out); }"
 METHOD = """
 impl Pair {
     pub fn first(self) -> u64
-        ensures { λ r. ⌜ r ≡ self .n ⌝ }
+        ensures { result ≡ self.n }
     {
         self.n
     }
@@ -76,14 +76,14 @@ impl Pair {
 """
 WRONG = """
 pub fn right(n: u64) -> u64
-    ensures { λ r. ⌜ r ≡ n ⌝ }
+    ensures { result ≡ n }
 {
     n
 }
 
 pub fn requiring(n: u64) -> u64
-    requires { ⌜ n ≤ 5 ⌝ }
-    ensures { λ r. ⌜ r ≡ n ⌝ }
+    requires { n ≤ 5 }
+    ensures { result ≡ n }
 {
     n
 }
@@ -93,25 +93,25 @@ pub fn silent(n: u64)
 }
 
 pub fn lent(n: u64, out: &mut [u8]) -> u64
-    ensures { λ r. ⌜ r ≡ n ⌝ }
+    ensures { result ≡ n }
 {
     n
 }
 
 pub fn bounded(n: u64) -> u64
-    ensures { λ r. ⌜ r ≤ n ⌝ }
+    ensures { result ≤ n }
 {
     n
 }
 
 pub fn lawless(n: u64) -> u64
-    ensures { λ r. ⌜ n ∷ [] ≡ r ∷ [] ⌝ }
+    ensures { n ∷ [] ≡ result ∷ [] }
 {
     n
 }
 
 pub fn unused(n: u64) -> u64
-    ensures { λ r. ⌜ r ≡ n ⌝ }
+    ensures { result ≡ n }
 {
     n
 }
@@ -131,7 +131,7 @@ LAWS_OF_WRONG = """
 
 | function | law | file |
 |---|---|---|
-| `wrong::lawless` | `one-lawless` | `crates/wrong/proofs/Laws.antt` |
+| `wrong::lawless` | `one_lawless` | `crates/wrong/proofs/Laws.antt` |
 """
 NO_TABLES = ""
 TABLES = """
@@ -141,7 +141,7 @@ TABLES = """
 
 | function | law | file |
 |---|---|---|
-| `wrong::call` | `one-call` | `crates/wrong/proofs/Laws.antt` |
+| `wrong::call` | `one_call` | `crates/wrong/proofs/Laws.antt` |
 
 ### Entry points
 
@@ -160,7 +160,7 @@ def function(contract: str, head: str = "pub fn call(n: u64, out: &[u8]) -> u64"
 
 def ensuring(statement: str) -> str:
     """A function that ensures this of its result."""
-    return function(f"ensures {{ λ r. ⌜ {statement} ⌝ }}")
+    return function(f"ensures {{ {statement} }}")
 
 
 class TestJudging(unittest.TestCase):
@@ -189,13 +189,13 @@ class TestJudging(unittest.TestCase):
     def test_right_functions_pass(self) -> None:
         self.write("crates/right/src/lib.rt", RIGHT + METHOD)
         self.write("crates/right/src/modules.rt", EXPORTED)
-        judged = self.judged(ensuring("r ≡ n"), caller=CALLER + "fn more() { wrong::call(1, out); }")
+        judged = self.judged(ensuring("result ≡ n"), caller=CALLER + "fn more() { wrong::call(1, out); }")
         right = ["right::twice", "right::fill", "right::Pair::first", "right::modules::exported"]
         self.assertEqual(judged, {path: [] for path in [*right, "wrong::call"]})
         self.assertEqual(report(judged), ["5 passed, 0 failed"])
 
     def test_a_requires(self) -> None:
-        contract = "requires { ⌜ n ≤ 5 ⌝ }\n    ensures { λ r. ⌜ r ≡ n ⌝ }"
+        contract = "requires { n ≤ 5 }\n    ensures { result ≡ n }"
         self.assert_fault(function(contract), "it has a requires")
 
     def test_no_ensures(self) -> None:
@@ -204,41 +204,47 @@ class TestJudging(unittest.TestCase):
 
     def test_a_lent_slice_without_statement(self) -> None:
         head = "pub fn call(n: u64, out: &mut [u8]) -> u64"
-        fault = "no equation gives what out holds afterwards"
-        self.assert_fault(function("ensures { λ r. ⌜ r ≡ n ⌝ }", head), fault)
+        fault = NO_EQUATION.replace("its result", "what out holds afterwards")
+        self.assert_fault(function("ensures { result ≡ n }", head), fault)
         for statement in (
-            "length (now (out .exit)) ≡ n",
-            "now (other .exit) ≡ bytes",
-            "now (out .exit) ≡ now (out .exit)",
-            "now (out .exit) ≡ [] ⊎ now (out .exit) ≡ now (out .entry)",
+            "length out.new ≡ n",
+            "other.new ≡ bytes",
+            "out.old ≡ bytes",
+            "out.new ≡ out.new",
+            "out.new ≡ [] ⊎ out.new ≡ out.old",
         ):
-            self.assert_fault(function(f"ensures {{ λ r. ⌜ (r ≡ n) × ({statement}) ⌝ }}", head), fault)
+            self.assert_fault(function(f"ensures {{ (result ≡ n) × ({statement}) }}", head), fault)
 
     def test_a_result_without_equation(self) -> None:
         for statement in (
-            "IsMade n r", "r ≤ n", "f r ≡ n", "r ≡ f r", "r ≡ f (r .0)", "r ≡ f r.0", "r ≡ now (out .exit)",
-            "n ≤ 5 → r ≡ n", "r ≡ n → n ≤ 5", "(r ≡ n) ⊎ (r ≡ 0)", "r ≡ n ⊎ r ≡ 0", "(k : ℕ) × (r ≡ k)",
+            "IsMade n result", "result ≤ n", "f result ≡ n", "result ≡ f result", "result ≡ f (result.0)",
+            "result ≡ f result.0", "result ≡ out.new", "result.0 ≡ n", "n ≤ 5 → result ≡ n", "result ≡ n → n ≤ 5",
+            "(result ≡ n) ⊎ (result ≡ 0)", "result ≡ n ⊎ result ≡ 0", "(k : ℕ) × (result ≡ k)",
         ):
             self.assert_fault(ensuring(statement), NO_EQUATION)
 
     def test_a_result_with_more_than_its_equation(self) -> None:
-        for statement in ("r ≡ n", "(r ≡ n)", "(r ≡ n) × (r ≤ 5)", "((r ≤ 5) × (r ≡ cond (n ≡ᵇ 5) n 0))"):
+        for statement in (
+            "result ≡ n", "(result ≡ n)", "(result ≡ n) × (result ≤ 5)", "((result ≤ 5) × (result ≡ cond (n == 5) n 0))",
+        ):
             self.assert_fault(ensuring(statement))
 
     def test_a_law_in_the_table(self) -> None:
-        laws = "module _ (n : ℕ) where\n  pub one-call : (r s : ℕ) → IsMade n r → IsMade n s → r ≡ s\n"
+        laws = "module _ (n : ℕ) where\n  pub one_call : (r s : ℕ) → IsMade n r → IsMade n s → r ≡ s\n"
         self.write("crates/wrong/proofs/Laws.antt", laws)
-        self.assertEqual(self.judged(ensuring("IsMade n r"), TABLES), {"wrong::call": []})
+        self.assertEqual(self.judged(ensuring("IsMade n result"), TABLES), {"wrong::call": []})
+        lent = function("ensures { result ≡ n }", "pub fn call(n: u64, out: &mut [u8]) -> u64")
+        self.assertEqual(self.judged(lent, TABLES), {"wrong::call": []})
 
     def test_a_law_that_does_not_exist(self) -> None:
-        fault = "the law one-call does not stand in crates/wrong/proofs/Laws.antt"
-        self.assertEqual(self.judged(ensuring("IsMade n r"), TABLES), {"wrong::call": [fault]})
-        self.write("crates/wrong/proofs/Laws.antt", "-- one-call : as said\npub one-call-more : ℕ\n")
-        self.assertEqual(self.judged(ensuring("IsMade n r"), TABLES), {"wrong::call": [fault]})
+        fault = "the law one_call does not stand in crates/wrong/proofs/Laws.antt"
+        self.assertEqual(self.judged(ensuring("IsMade n result"), TABLES), {"wrong::call": [fault]})
+        self.write("crates/wrong/proofs/Laws.antt", "-- one_call : as said\npub one_call_more : ℕ\n")
+        self.assertEqual(self.judged(ensuring("IsMade n result"), TABLES), {"wrong::call": [fault]})
 
     def test_a_law_that_is_not_needed(self) -> None:
         fault = "docs/PROOFS.md has a law for it, but it needs none"
-        self.assertEqual(self.judged(ensuring("r ≡ n"), TABLES), {"wrong::call": [fault]})
+        self.assertEqual(self.judged(ensuring("result ≡ n"), TABLES), {"wrong::call": [fault]})
 
     def test_a_row_that_names_no_public_function(self) -> None:
         fault = "docs/PROOFS.md names it, but it is no public function"
@@ -247,11 +253,11 @@ class TestJudging(unittest.TestCase):
 
     def test_called_by_nobody(self) -> None:
         for line in ("", "other::call(1)", "call(1)", "x.call(1)", "wrong::call_on(1)", "// wrong::call(1)"):
-            judged = self.judged(ensuring("r ≡ n"), caller=f"fn main() {{\n    {line}\n}}\n")
+            judged = self.judged(ensuring("result ≡ n"), caller=f"fn main() {{\n    {line}\n}}\n")
             self.assertEqual(judged, {"wrong::call": [NO_CALL]})
 
     def test_called_in_its_own_crate_only(self) -> None:
-        source = ensuring("r ≡ n") + "fn other() { wrong::call(1); call(1); }"
+        source = ensuring("result ≡ n") + "fn other() { wrong::call(1); call(1); }"
         self.assertEqual(self.judged(source, caller=""), {"wrong::call": [NO_CALL]})
 
     def test_a_method_of_another_type_called(self) -> None:
@@ -259,17 +265,17 @@ class TestJudging(unittest.TestCase):
         self.assertEqual(self.judged(METHOD, caller=caller), {"wrong::Pair::first": [NO_CALL]})
 
     def test_an_entry_point_passes(self) -> None:
-        tables = TABLES.replace("| `wrong::call` | `one-call` | `crates/wrong/proofs/Laws.antt` |\n", "")
-        self.assertEqual(self.judged(ensuring("r ≡ n"), tables, caller=""), {"wrong::call": []})
+        tables = TABLES.replace("| `wrong::call` | `one_call` | `crates/wrong/proofs/Laws.antt` |\n", "")
+        self.assertEqual(self.judged(ensuring("result ≡ n"), tables, caller=""), {"wrong::call": []})
 
     def test_each_fault_is_reported_of_its_function(self) -> None:
         judged = self.judged(WRONG, LAWS_OF_WRONG, caller=CALLER_OF_WRONG)
         self.assertEqual(report(judged), [
             "wrong::requiring: it has a requires",
             "wrong::silent: it has no ensures",
-            "wrong::lent: no equation gives what out holds afterwards",
+            f"wrong::lent: {NO_EQUATION.replace('its result', 'what out holds afterwards')}",
             f"wrong::bounded: {NO_EQUATION}",
-            "wrong::lawless: the law one-lawless does not stand in crates/wrong/proofs/Laws.antt",
+            "wrong::lawless: the law one_lawless does not stand in crates/wrong/proofs/Laws.antt",
             f"wrong::unused: {NO_CALL}",
             "1 passed, 6 failed",
         ])
