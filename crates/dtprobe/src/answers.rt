@@ -1,7 +1,7 @@
 // The call that a request asks for: a function for each, one for the two that load and one for the two that write. Each reads what is lent
 // beside the input, makes the call and prints its answer.
 use crate::printing;
-use crate::requests::{HEAD, head_number, index_at, read_bytes, read_rows, wanted};
+use crate::requests::{MEDIUM_HEAD, head_number, index_at, read_bytes, read_rows, wanted};
 use std::io;
 use std::io::{Read, Write};
 
@@ -65,7 +65,14 @@ fn load_medium_into<W: Write>(
 }
 
 // Whether each column of the table has been read as long as the head line tells.
-fn is_whole_table(head: &[u8; HEAD], e: usize, f: usize, g: usize, h: usize, i: usize) -> bool {
+fn is_whole_table(
+    head: &[u8; MEDIUM_HEAD],
+    e: usize,
+    f: usize,
+    g: usize,
+    h: usize,
+    i: usize,
+) -> bool {
     (e == head_number(head, 5))
         & (f == head_number(head, 6))
         & (g == head_number(head, 7))
@@ -77,7 +84,7 @@ fn is_whole_table(head: &[u8; HEAD], e: usize, f: usize, g: usize, h: usize, i: 
 fn load_medium<R: Read, W: Write>(
     reader: &mut R,
     writer: &mut W,
-    head: &[u8; HEAD],
+    head: &[u8; MEDIUM_HEAD],
     input: &[u8],
     c4: &mut [u64],
     c5: &mut [u64],
@@ -117,7 +124,7 @@ fn load_medium<R: Read, W: Write>(
 fn load<R: Read, W: Write>(
     reader: &mut R,
     writer: &mut W,
-    head: &[u8; HEAD],
+    head: &[u8; MEDIUM_HEAD],
     is_medium: bool,
     input: &[u8],
 ) -> io::Result<bool> {
@@ -160,21 +167,21 @@ fn load<R: Read, W: Write>(
 }
 
 // Where a payment stands.
-fn find<W: Write>(writer: &mut W, head: &[u8; HEAD], input: &[u8]) -> io::Result<bool> {
+fn find<W: Write>(writer: &mut W, head: &[u8; MEDIUM_HEAD], input: &[u8]) -> io::Result<bool> {
     let spot = finder::find(input, index_at(head, 1));
     printing::spot(writer, spot)?;
     Ok(true)
 }
 
 // Where a text stands of the payment that begins at a start.
-fn locate<W: Write>(writer: &mut W, head: &[u8; HEAD], input: &[u8]) -> io::Result<bool> {
+fn locate<W: Write>(writer: &mut W, head: &[u8; MEDIUM_HEAD], input: &[u8]) -> io::Result<bool> {
     let spot = finder::locate(input, index_at(head, 1), wanted(head));
     printing::spot(writer, spot)?;
     Ok(true)
 }
 
 // A view of a payment is made, and a text handed out of it.
-fn view_of<W: Write>(writer: &mut W, head: &[u8; HEAD], input: &[u8]) -> io::Result<bool> {
+fn view_of<W: Write>(writer: &mut W, head: &[u8; MEDIUM_HEAD], input: &[u8]) -> io::Result<bool> {
     let n = index_at(head, 1);
     let v = view::verdict_of(input, n, wanted(head));
     let text = view::text_of(input, n, wanted(head));
@@ -200,7 +207,7 @@ fn write_into<W: Write>(
 fn write<R: Read, W: Write>(
     reader: &mut R,
     writer: &mut W,
-    head: &[u8; HEAD],
+    head: &[u8; MEDIUM_HEAD],
     composes: bool,
     input: &[u8],
     out: &mut [u8],
@@ -218,7 +225,7 @@ fn write<R: Read, W: Write>(
 pub(crate) fn call<R: Read, W: Write>(
     reader: &mut R,
     writer: &mut W,
-    head: &[u8; HEAD],
+    head: &[u8; MEDIUM_HEAD],
     input: &[u8],
     out: &mut [u8],
 ) -> io::Result<bool> {

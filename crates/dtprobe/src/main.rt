@@ -2,7 +2,7 @@
 // prints the call's whole result and what every lent slice holds afterwards. crates/dtprobe/README.md has the form of requests and answers.
 #![tactic(auto)]
 
-use crate::requests::HEAD;
+use crate::requests::{HEAD, MEDIUM_HEAD};
 use std::io;
 use std::io::{BufReader, BufWriter, Read, Write};
 
@@ -17,7 +17,7 @@ const ROOM: usize = 65536;
 fn answer<R: Read, W: Write>(
     reader: &mut R,
     writer: &mut W,
-    head: &[u8; HEAD],
+    head: &[u8; MEDIUM_HEAD],
     input: &mut [u8],
     out: &mut [u8],
 ) -> io::Result<bool> {
@@ -45,12 +45,15 @@ fn serve<R: Read, W: Write>(
     input: &mut [u8],
     out: &mut [u8],
 ) -> io::Result<bool> {
-    let mut head = [0u8; HEAD];
-    let n = reading::read_full(reader, &mut head)?;
+    let mut head = [0u8; MEDIUM_HEAD];
+    let n = reading::read_full(reader, &mut head[..HEAD])?;
     if n == 0 {
         return Ok(false);
     }
     if n != HEAD {
+        return refuse_request(writer);
+    }
+    if !requests::read_rest(reader, &mut head)? {
         return refuse_request(writer);
     }
     if !answer(reader, writer, &head, input, out)? {

@@ -7,11 +7,15 @@ use finder::Wanted;
 use std::io;
 use std::io::Read;
 
-// The bytes of a head line.
-pub(crate) const HEAD: usize = 86;
+// The bytes of a head line, and of one for a call over media, which has more numbers.
+pub(crate) const HEAD: usize = 37;
 
-// How many numbers a head line has, where they begin, how far they stand apart, and how many digits each has.
-const NUMBERS: usize = 12;
+pub(crate) const MEDIUM_HEAD: usize = 86;
+
+// How many numbers a head line has, and one for a call over media; where they begin, how far they stand apart, and how many digits each has.
+const NUMBERS: usize = 5;
+
+const MEDIUM_NUMBERS: usize = 12;
 
 const FIRST_NUMBER: usize = 2;
 
@@ -28,9 +32,23 @@ const LARGEST: usize = 999999;
 // The digits of a row.
 const ROW: usize = 17;
 
+// Whether the head line is one for a call over media: then it goes on behind the first HEAD bytes.
+fn is_over_media(head: &[u8; MEDIUM_HEAD]) -> bool {
+    (head[0] == b'N') | (head[0] == b'O')
+}
+
+// Reads what the head line has behind its first HEAD bytes, and answers whether that was whole. What it does not have stays 0, which is no digit.
+pub(crate) fn read_rest<R: Read>(reader: &mut R, head: &mut [u8; MEDIUM_HEAD]) -> io::Result<bool> {
+    if !is_over_media(head) {
+        return Ok(true);
+    }
+    let n = reading::read_full(reader, &mut head[HEAD..])?;
+    Ok(n == MEDIUM_HEAD - HEAD)
+}
+
 // Number i of a head line, from 0; NO_NUMBER where there are no six digits.
-pub(crate) fn head_number(head: &[u8; HEAD], i: usize) -> usize {
-    if i >= NUMBERS {
+pub(crate) fn head_number(head: &[u8; MEDIUM_HEAD], i: usize) -> usize {
+    if i >= MEDIUM_NUMBERS {
         return NO_NUMBER;
     }
     let read = fields::number_at(head, FIRST_NUMBER + NUMBER_STEP * i, NUMBER_DIGITS);
@@ -41,12 +59,16 @@ pub(crate) fn head_number(head: &[u8; HEAD], i: usize) -> usize {
 }
 
 // Whether the head line has all its numbers.
-pub(crate) fn has_numbers(head: &[u8; HEAD]) -> bool {
-    (0..NUMBERS).all(|i| head_number(head, i) != NO_NUMBER)
+pub(crate) fn has_numbers(head: &[u8; MEDIUM_HEAD]) -> bool {
+    let mut numbers = NUMBERS;
+    if is_over_media(head) {
+        numbers = MEDIUM_NUMBERS;
+    }
+    (0..numbers).all(|i| head_number(head, i) != NO_NUMBER)
 }
 
 // Number i of a head line that is no length: the largest there is stands for the largest of all.
-pub(crate) fn index_at(head: &[u8; HEAD], i: usize) -> usize {
+pub(crate) fn index_at(head: &[u8; MEDIUM_HEAD], i: usize) -> usize {
     let n = head_number(head, i);
     if n == LARGEST {
         return usize::MAX;
@@ -55,7 +77,7 @@ pub(crate) fn index_at(head: &[u8; HEAD], i: usize) -> usize {
 }
 
 // Which text the head line names: a field by its number, else a part.
-pub(crate) fn wanted(head: &[u8; HEAD]) -> Wanted {
+pub(crate) fn wanted(head: &[u8; MEDIUM_HEAD]) -> Wanted {
     let field = head_number(head, 2);
     if field == 14 {
         return Wanted::C14a;
