@@ -3,7 +3,7 @@
 use crate::check::{self, Stretch};
 use crate::columns::Lent;
 use crate::compose;
-use crate::head::{Call, Head, HEAD_BYTES};
+use crate::head::{self, Call, Head, HEAD_BYTES};
 use crate::input;
 use crate::listing;
 use crate::load;
@@ -54,13 +54,14 @@ struct Desk<R: Read, W: Write> {
 impl<R: Read, W: Write> Desk<R, W> {
     fn requests(&mut self) -> Result<(), Stop> {
         loop {
-            let line = self.up_to(HEAD_BYTES)?;
-            if line.is_empty() {
+            let mut line = self.up_to(HEAD_BYTES)?;
+            let Some(&letter) = line.first() else {
                 return Ok(());
-            }
+            };
             if line.len() < HEAD_BYTES {
                 return Err(Stop::BadRequest);
             }
+            line.extend(self.whole(head::bytes_from(letter) - HEAD_BYTES)?);
             let head = Head::of(&line).ok_or(Stop::BadRequest)?;
             let input = self.whole(head.input)?;
             match head.call {
@@ -139,8 +140,7 @@ impl<R: Read, W: Write> Desk<R, W> {
 
     /// Answers a call that fills one lent output.
     fn fill(&mut self, call: Filling, input: &[u8], head: &Head) -> Result<(), Stop> {
-        let [bytes, ..] = head.numbers;
-        let mut lent = self.whole(bytes)?;
+        let mut lent = self.whole(head.numbers[0])?;
         let answer = call(input, &mut lent);
         let (number, place) = verdict(&answer);
         let length = answer.unwrap_or_default();

@@ -6,6 +6,7 @@ use crate::dice::Dice;
 use crate::listing::list;
 use crate::output::Filling;
 use crate::refusal::Refusal;
+use crate::samples;
 use crate::signs::without_closing_blanks;
 use crate::view::{Text, View};
 
@@ -17,12 +18,19 @@ fn written(call: Filling, input: &[u8]) -> Result<Vec<u8>, Refusal> {
     Ok(output)
 }
 
+fn sample_file(dice: &mut Dice) -> Vec<u8> {
+    let payments: Vec<_> = (0..=dice.below(3))
+        .map(|_| samples::payment(7, &samples::parts(dice.below(16))))
+        .collect();
+    samples::file(&payments)
+}
+
 #[test]
 fn accepted_files_come_back_from_their_listing() {
     let mut dice = Dice(2002);
     let mut accepted = 0;
     for _ in 0..4_000 {
-        let mut file = dice.file();
+        let mut file = sample_file(&mut dice);
         dice.damage(&mut file);
         let listing = written(list, &file);
         assert_eq!(listing.as_ref().err(), check(&file).as_ref().err());
@@ -39,7 +47,7 @@ fn accepted_listings_come_back_from_their_file() {
     let mut dice = Dice(1974);
     let mut accepted = 0;
     for _ in 0..4_000 {
-        let mut listing = written(list, &dice.file()).unwrap_or_default();
+        let mut listing = written(list, &sample_file(&mut dice)).unwrap_or_default();
         dice.damage(&mut listing);
         if let Ok(file) = written(compose, &listing) {
             accepted += 1;
@@ -72,7 +80,7 @@ fn views_hand_out_the_texts_of_the_listing() {
     let mut dice = Dice(27);
     let mut payments = 0;
     for _ in 0..1_000 {
-        let mut file = dice.file();
+        let mut file = sample_file(&mut dice);
         dice.damage(&mut file);
         match written(list, &file) {
             Err(refusal) => assert_eq!(View::of(&file, 0), Err(refusal)),
@@ -93,7 +101,7 @@ fn views_hand_out_the_texts_of_the_listing() {
 fn a_refusal_but_for_1_stays_whatever_follows() {
     let mut dice = Dice(128);
     for _ in 0..4_000 {
-        let mut file = dice.file();
+        let mut file = sample_file(&mut dice);
         dice.damage(&mut file);
         if let Err(refusal) = check(&file) {
             file.extend((0..300).map(|_| dice.byte()));

@@ -1,7 +1,7 @@
 //! Files, listings, requests and days for the tests: the whole case M, files made like it, the calendar step by step.
 
 use crate::columns::Lent;
-use crate::head::HEAD_BYTES;
+use crate::head;
 use crate::rules::Entry;
 use std::io::{self, Read};
 use std::iter;
@@ -145,7 +145,7 @@ pub fn lent<const WIDTH: usize>(rows: [usize; WIDTH]) -> Lent<WIDTH> {
 /// The head line of a request that begins so, with one and the same number for all that are left.
 pub fn head_line(begin: &str, left: usize) -> String {
     let mut line = begin.to_string();
-    while line.len() + 1 < HEAD_BYTES {
+    while line.len() + 1 < head::bytes_from(begin.as_bytes()[0]) {
         line += &format!(" {left:06}");
     }
     line + "\n"

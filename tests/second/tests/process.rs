@@ -60,16 +60,20 @@ fn a_refusal_ends_with_status_0() -> io::Result<()> {
     Ok(())
 }
 
-/// The head line of a request over four bytes that lends nothing.
-fn head(letter: char) -> Vec<u8> {
-    format!("{letter} 000004{}\n", " 000000".repeat(11)).into_bytes()
+#[test]
+fn a_probe_answers_and_ends() -> io::Result<()> {
+    let head = b"C 000004 000000 000000 000000 000000\n";
+    let probed = run(&["probe"], &[head, b"wxyz", head, b"xyz"])?;
+    assert_eq!(probed.status.code(), Some(0));
+    assert_eq!(probed.stdout, b"2\t0\t0\t0\t0\t0\nbad request\n");
+    Ok(())
 }
 
 #[test]
-fn a_probe_answers_and_ends() -> io::Result<()> {
-    let check = head('C');
-    let medium = head('N');
-    let requests: [&[u8]; 6] = [&check, b"wxyz", &medium, b"wxyz", &check, b"xyz"];
+fn a_probe_answers_about_media_among_others() -> io::Result<()> {
+    let check = b"C 000004 000000 000000 000000 000000\n";
+    let medium = format!("N 000004{}\n", " 000000".repeat(11)).into_bytes();
+    let requests: [&[u8]; 6] = [check, b"wxyz", &medium, b"wxyz", check, b"xyz"];
     let probed = run(&["probe"], &requests)?;
     assert_eq!(probed.status.code(), Some(0));
     let answers = b"2\t0\t0\t0\t0\t0\n2\t0\t0\t0\nbad request\n";

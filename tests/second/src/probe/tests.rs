@@ -1,33 +1,21 @@
 //! What the probe answers, and when.
 
 use super::*;
-use crate::samples::{self, head_line, m, m_listing, Pieces};
+use crate::samples::{self, m, m_listing, Pieces};
 use std::cell::RefCell;
 use std::rc::Rc;
 
 mod medium;
 
-/// A request: head line, input, lent content. The numbers that the call does not use may be left out.
-fn request<const USED: usize>(
-    letter: char,
-    numbers: [usize; USED],
-    input: &[u8],
-    content: &[u8],
-) -> Vec<u8> {
+/// A request: head line, input, lent content.
+fn request(letter: char, numbers: [usize; 4], input: &[u8], content: &[u8]) -> Vec<u8> {
     let numbers: String = numbers.map(|number| format!(" {number:06}")).concat();
-    let begin = format!("{letter} {:06}{numbers}", input.len());
-    // For those any six digits do, even so many as could not be lent.
-    let head = head_line(&begin, 999_999);
+    let head = format!("{letter} {:06}{numbers}\n", input.len());
     [head.as_bytes(), input, content].concat()
 }
 
-/// Rows as they are lent.
-fn rows(values: &[u64]) -> String {
-    values.iter().map(|value| format!("{value:017}")).collect()
-}
-
 fn check_m() -> Vec<u8> {
-    request('C', [], &m(), b"")
+    request('C', [0; 4], &m(), b"")
 }
 
 /// The answers to what comes in, in pieces of several lengths.
@@ -52,13 +40,15 @@ fn nothing_in_nothing_out() {
 
 #[test]
 fn checks_are_answered_in_order() {
-    let input = [check_m(), request('C', [], b"", b""), check_m()].concat();
+    let input = [check_m(), request('C', [0; 4], b"", b""), check_m()].concat();
     let expected = format!("{CHECKED_M}1\t0\t0\t0\t0\t0\n{CHECKED_M}");
     assert_eq!(answers(&input), expected);
 }
 
 #[test]
 fn columns_come_back_as_they_are_after_the_call() {
+    let rows =
+        |values: &[u64]| -> String { values.iter().map(|value| format!("{value:017}")).collect() };
     let content = rows(&[1]) + &rows(&[2, 3]) + &rows(&[4, 5]) + "0000000000000000X";
     let loaded = request('L', [1, 2, 2, 1], &m(), content.as_bytes());
     let expected = format!("{CHECKED_M}30050020 \n7654321 3 \n12345 5 \n128 \n");
@@ -76,26 +66,26 @@ fn columns_come_back_as_they_are_after_the_call() {
 
 #[test]
 fn outputs_come_back_whole() {
-    let listed = request('P', [195], &m(), &[b'.'; 195]);
+    let listed = request('P', [195, 0, 0, 0], &m(), &[b'.'; 195]);
     assert_eq!(answers(&listed), format!("0\t0\t193\n{}..\n", m_listing()));
-    let short = request('P', [3], &m(), b"abc");
+    let short = request('P', [3, 0, 0, 0], &m(), b"abc");
     assert_eq!(answers(&short), "16\t0\t0\nabc\n");
-    let made = request('M', [513], m_listing().as_bytes(), &[b'.'; 513]);
+    let made = request('M', [513, 0, 0, 0], m_listing().as_bytes(), &[b'.'; 513]);
     let file = String::from_utf8_lossy(&m()).into_owned();
     assert_eq!(answers(&made), format!("0\t0\t512\n{file}.\n"));
-    let refused = request('M', [0], b"", b"");
+    let refused = request('M', [0; 4], b"", b"");
     assert_eq!(answers(&refused), "18\t0\t0\n\n");
 }
 
 /// Every call over the file refuses it so and leaves what it was lent.
 fn all_refuse(file: &[u8], refusal: &str) {
-    let checked = request('C', [], file, b"");
+    let checked = request('C', [0; 4], file, b"");
     assert_eq!(answers(&checked), format!("{refusal}\t0\t0\t0\t0\n"));
     let loaded = request('L', [1, 0, 0, 0], file, b"00000000000000009");
     let expected = format!("{refusal}\t0\t0\t0\t0\n9 \n\n\n\n");
     assert_eq!(answers(&loaded), expected);
     medium::is_refused(file, refusal);
-    let listed = request('P', [3], file, b"abc");
+    let listed = request('P', [3, 0, 0, 0], file, b"abc");
     assert_eq!(answers(&listed), format!("{refusal}\t0\nabc\n"));
     let nothing = format!("{refusal}\t0\t0\n");
     assert_eq!(viewed('F', [0, 0, 0], file), nothing);
@@ -105,7 +95,7 @@ fn all_refuse(file: &[u8], refusal: &str) {
 
 /// Composing refuses the listing so and leaves what it was lent.
 fn composing_refuses(listing: &str, refusal: &str) {
-    let made = request('M', [3], listing.as_bytes(), b"abc");
+    let made = request('M', [3, 0, 0, 0], listing.as_bytes(), b"abc");
     assert_eq!(answers(&made), format!("{refusal}\t0\nabc\n"));
 }
 
@@ -213,7 +203,7 @@ fn a_files_refusal_comes_before_19() {
 #[test]
 fn calls_of_the_view_stand_among_others() {
     let requests = [
-        request('F', [0], &m(), b""),
+        request('F', [0; 4], &m(), b""),
         check_m(),
         request('H', [128, 14, 0, 0], &m(), b""),
         check_m(),
@@ -234,29 +224,31 @@ fn calls_of_the_view_stand_among_others() {
 #[test]
 fn a_bad_head_ends_the_program() {
     let heads = [
-        "X 000000",
-        "C 00000X",
-        "P 000000 065537",
-        "F 065537",
-        "H 000000 00000X",
-        "V 000000 000000 000000 000000 00000X",
+        "X 000000 000000 000000 000000 000000\n",
+        "C 00000X 000000 000000 000000 000000\n",
+        "P 000000 065537 000000 000000 000000\n",
+        "F 065537 000000 000000 000000 000000\n",
+        "H 000000 00000X 000000 000000 000000\n",
+        "V 000000 000000 000000 000000 00000X\n",
     ];
-    for begin in heads {
-        is_bad(&head_line(begin, 0));
+    for head in heads {
+        let input = [&check_m(), head.as_bytes(), &check_m()].concat();
+        assert_eq!(
+            answers(&input),
+            format!("{CHECKED_M}bad request\n"),
+            "{head}"
+        );
     }
-}
-
-/// No request has this head, though bytes enough for the longest follow it, and none is answered from there on.
-fn is_bad(head: &str) {
-    let following = check_m().repeat(120);
-    let input = [&check_m(), head.as_bytes(), &following].concat();
-    let expected = format!("{CHECKED_M}bad request\n");
-    assert_eq!(answers(&input), expected, "{head}");
 }
 
 #[test]
 fn the_largest_requests_are_answered() {
-    let largest = request('M', [65_536], &vec![b'\n'; 65_536], &vec![b'.'; 65_536]);
+    let largest = request(
+        'M',
+        [65_536, 0, 0, 0],
+        &vec![b'\n'; 65_536],
+        &vec![b'.'; 65_536],
+    );
     assert_eq!(
         answers(&largest),
         format!("17\t0\t0\n{}\n", ".".repeat(65_536))
@@ -283,7 +275,7 @@ fn the_largest_file_is_viewed_to_its_last_payment() {
 #[test]
 fn the_library_has_no_limit_of_input() {
     let payments = vec![samples::payment(1, &[]); 200];
-    let long = request('C', [], &samples::file(&payments), b"");
+    let long = request('C', [0; 4], &samples::file(&payments), b"");
     assert_eq!(answers(&long), "0\t0\t200\t1530864200\t6010004000\t200\n");
 }
 
@@ -291,8 +283,7 @@ fn the_library_has_no_limit_of_input() {
 fn a_request_cut_anywhere_is_bad() {
     let mut requests = vec![request('L', [1, 0, 0, 1], &m(), &[b'0'; 34])];
     requests.extend(['F', 'H', 'V'].map(|letter| request(letter, [128, 14, 1, 9], &m(), b"")));
-    requests.push(request('N', [], &m(), b""));
-    requests.push(request('O', [0, 0, 0, 1, 1, 0, 0, 0, 1], &m(), &[b'0'; 51]));
+    requests.extend(medium::requests());
     for whole in requests {
         for bytes in 1..whole.len() {
             let mut output = Vec::new();

@@ -1,6 +1,35 @@
 //! Requests for the check and the load of a medium.
 
 use super::*;
+use crate::samples::head_line;
+
+/// A request over a medium: head line, input, lent content. The numbers that the call does not use are left out.
+fn request<const USED: usize>(
+    letter: char,
+    numbers: [usize; USED],
+    input: &[u8],
+    content: &[u8],
+) -> Vec<u8> {
+    let numbers: String = numbers.map(|number| format!(" {number:06}")).concat();
+    let begin = format!("{letter} {:06}{numbers}", input.len());
+    // For those any six digits do, even so many as could not be lent.
+    let head = head_line(&begin, 999_999);
+    [head.as_bytes(), input, content].concat()
+}
+
+/// A request of each call.
+pub fn requests() -> [Vec<u8>; 2] {
+    let lengths = [0, 0, 0, 1, 1, 0, 0, 0, 1];
+    [
+        request('N', [], &m(), b""),
+        request('O', lengths, &m(), &[b'0'; 51]),
+    ]
+}
+
+/// Rows as they are lent.
+fn rows(values: &[u64]) -> String {
+    values.iter().map(|value| format!("{value:017}")).collect()
+}
 
 /// The request for a load with these columns lent, and with any digits as the eleventh and twelfth number.
 fn load_request(medium: &[u8], columns: [&[u64]; 9]) -> Vec<u8> {
@@ -147,6 +176,14 @@ fn the_largest_medium_is_loaded_into_the_largest_columns() {
             "{line}"
         );
     }
+}
+
+/// No request has this head, though bytes enough for the longest follow it, and none is answered from there on.
+fn is_bad(head: &str) {
+    let following = check_m().repeat(120);
+    let input = [&check_m(), head.as_bytes(), &following].concat();
+    let expected = format!("{CHECKED_M}bad request\n");
+    assert_eq!(answers(&input), expected, "{head}");
 }
 
 #[test]
