@@ -7,8 +7,8 @@ from random import Random
 from . import expected
 from .inputs import Form, Given, Input, MediumInput, as_medium
 from .requests import (
-    CHECK, CHECK_MEDIUM, COMPOSE, LIST, LOAD, LOAD_MEDIUM, MOST_BYTES, MOST_ROWS, ROW_WIDTH, Request,
-    lending_nothing,
+    CHECK, CHECK_MEDIUM, COMPOSE, HIGHEST, LIST, LOAD, LOAD_MEDIUM, MOST_BYTES, MOST_ROWS,
+    OTHER_NUMBERS_OVER_MEDIA, ROW_WIDTH, Request,
 )
 from .viewing import few_view_requests, view_requests
 
@@ -78,7 +78,8 @@ def load_request(rng: Random, given: Input, room: Room) -> Request:
 
 def check_medium_request(given: MediumInput) -> Request:
     answer = expected.medium_checked(given.base) if given.valid else None
-    return Request(CHECK_MEDIUM, given.data, lending_nothing(), expected=answer)
+    # It looks at no number: they must be no lengths of anything lent.
+    return Request(CHECK_MEDIUM, given.data, (HIGHEST,) * OTHER_NUMBERS_OVER_MEDIA, expected=answer)
 
 
 def load_medium_request(rng: Random, given: MediumInput, room: Room) -> Request:

@@ -20,9 +20,8 @@ NAME_OF_CALL = {
 LINES_OF_ANSWER = {
     CHECK: 1, LOAD: 5, CHECK_MEDIUM: 1, LOAD_MEDIUM: 10, LIST: 1, COMPOSE: 1, FIND: 1, HAND: 1, VIEW: 2,
 }
-# Behind the input's length so many numbers stand on the head line.
-OTHER_NUMBERS = 11
-HEAD = b"%b" + b" %06d" * (1 + OTHER_NUMBERS) + b"\n"
+# So many numbers stand on the head line behind the input's length, and so many on that of a call over media.
+OTHER_NUMBERS, OTHER_NUMBERS_OVER_MEDIA = 4, 11
 
 # Stands for 2^64 - 1 where a payment, a start or a part is asked for.
 HIGHEST = 999_999
@@ -54,8 +53,10 @@ class Request:
 
     def wire(self) -> bytes:
         """The request as dtprobe reads it."""
-        unused = (0,) * (OTHER_NUMBERS - len(self.numbers))
-        return HEAD % (self.call, len(self.data), *self.numbers, *unused) + self.data + self.lent
+        over_media = self.call in (CHECK_MEDIUM, LOAD_MEDIUM)
+        unused = (OTHER_NUMBERS_OVER_MEDIA if over_media else OTHER_NUMBERS) - len(self.numbers)
+        numbers = (len(self.data), *self.numbers, *[0] * unused)
+        return self.call + b"".join(b" %06d" % number for number in numbers) + b"\n" + self.data + self.lent
 
     def answer_end(self, printed: bytes, start: int) -> int | None:
         """Where the answer that begins at `start` ends, or None where it is not whole."""
@@ -68,11 +69,6 @@ class Request:
             # The whole output and a line end follow, and the output may hold line ends of its own.
             end += len(self.lent) + 1
         return end if end <= len(printed) else None
-
-
-def lending_nothing(*asked: int) -> tuple[int, ...]:
-    """The numbers of a call that is lent nothing: what is asked for, then numbers that no length can be."""
-    return (*asked, *[HIGHEST] * (OTHER_NUMBERS - len(asked)))
 
 
 def asked_text(field: int, part: int) -> str:

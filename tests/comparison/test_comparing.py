@@ -343,10 +343,10 @@ class TestCases(unittest.TestCase):
 
     def test_what_a_row_asks_for(self) -> None:
         asked = {
-            "list 3": (b"P 000002 000003 000000 000000", b"....."),
-            "find 7": (b"F 000002 000007 000000 000000", b".."),
-            "hand 128 C15": (b"H 000002 000128 000015 000000", b".."),
-            "view 0 part 16": (b"V 000002 000000 000000 000016", b".."),
+            "list 3": b"P 000002 000003 000000 000000 000000\n.....",
+            "find 7": b"F 000002 000007 000000 000000 000000\n..",
+            "hand 128 C15": b"H 000002 000128 000015 000000 000000\n..",
+            "view 0 part 16": b"V 000002 000000 000000 000016 000000\n..",
         }
-        for call, (numbers, behind) in asked.items():
-            self.assertEqual(request_of(call, b"..").wire(), numbers + b" 000000" * 8 + b"\n" + behind)
+        for call, wire in asked.items():
+            self.assertEqual(request_of(call, b"..").wire(), wire)

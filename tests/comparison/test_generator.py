@@ -275,7 +275,7 @@ def kind_of_part(most: int, part: int) -> str:
 
 def kinds_of(document: Document, request: Request) -> list[str]:
     """What a request about the view asks for; a text only where its payment is there."""
-    which, field, part, *_ = request.numbers
+    which, field, part, _ = request.numbers
     call = NAME_OF_CALL[request.call]
     kind_of = kind_of_start if request.call == HAND else kind_of_number
     numbers = document.starts if request.call == HAND else range(len(document.payments))
@@ -342,9 +342,9 @@ class TestViewRequests(unittest.TestCase):
     def test_numbers_on_the_wire(self) -> None:
         given = replace(FILE_INPUT, data=b"0128A")
         wires = {
-            find_request(given, 7): b"F 000005 000007 999999 999999",
-            hand_request(given, 128, (14, 0)): b"H 000005 000128 000014 000000",
-            view_request(given, HIGHEST, (0, 16)): b"V 000005 999999 000000 000016",
+            find_request(given, 7): b"F 000005 000007 999999 999999 999999\n0128A",
+            hand_request(given, 128, (14, 0)): b"H 000005 000128 000014 000000 999999\n0128A",
+            view_request(given, HIGHEST, (0, 16)): b"V 000005 999999 000000 000016 999999\n0128A",
         }
-        for request, numbers in wires.items():
-            self.assertEqual(request.wire(), numbers + b" 999999" * 8 + b"\n0128A")
+        for request, wire in wires.items():
+            self.assertEqual(request.wire(), wire)

@@ -7,7 +7,7 @@ from . import expected
 from .document import Document, Payment
 from .inputs import Input
 from .layout import MOST_PARTS, SECTION
-from .requests import FIND, HAND, HIGHEST, TEXT_OF_FIELD, VIEW, Request, asked_text, lending_nothing
+from .requests import FIND, HAND, HIGHEST, TEXT_OF_FIELD, VIEW, Request, asked_text
 
 # The payments of a valid file that are asked for: the first, the last and at most so many others.
 OTHER_PAYMENTS = 4
@@ -16,6 +16,8 @@ OTHER_PAYMENTS = 4
 AT_START, AT_OTHER_STARTS, BY_NUMBER, BY_OTHER_NUMBERS = 5, 3, 4, 1
 # A third of the hand-outs are of the three texts that have a field of their own; all else means a part.
 FIELDS = (*TEXT_OF_FIELD, 0, 1, 13, 17, 114, HIGHEST)
+# Stands where a call of the view looks at no number: it must be no length of anything lent.
+UNUSED = HIGHEST
 # Added to a number, it leaves the lower 16 bits as they are.
 BEYOND_16_BITS = 1 << 16
 # How far behind the end of a file a start may lie.
@@ -105,17 +107,17 @@ def parts(rng: Random, payment: Payment) -> tuple[int, ...]:
 
 def find_request(given: Input, n: int) -> Request:
     answer = expected.found(given.base, n) if given.valid else None
-    return Request(FIND, given.data, lending_nothing(n), expected=answer)
+    return Request(FIND, given.data, (n, UNUSED, UNUSED, UNUSED), expected=answer)
 
 
 def hand_request(given: Input, start: int, text: Text) -> Request:
     answer = expected.handed(given.base, start, asked_text(*text)) if given.valid else None
-    return Request(HAND, given.data, lending_nothing(start, *text), expected=answer)
+    return Request(HAND, given.data, (start, *text, UNUSED), expected=answer)
 
 
 def view_request(given: Input, n: int, text: Text) -> Request:
     answer = expected.viewed(given.base, n, asked_text(*text)) if given.valid else None
-    return Request(VIEW, given.data, lending_nothing(n, *text), expected=answer)
+    return Request(VIEW, given.data, (n, *text, UNUSED), expected=answer)
 
 
 def view_requests(rng: Random, given: Input) -> list[Request]:
