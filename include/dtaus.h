@@ -33,7 +33,7 @@ extern "C" {
 #endif
 
 // The version of this header: one more with each change of an answer, a figure or a call.
-#define DTAUS_VERSION 4
+#define DTAUS_VERSION 3
 
 // The version of the header that belongs to the archive. A program that compares it with
 // DTAUS_VERSION knows that what it was compiled with and what it was linked with belong together.

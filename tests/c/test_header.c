@@ -21,6 +21,6 @@ void test_header(void) {
     expect_equal(DTAUS_TOO_EARLY, 22, "the number of a name");
     expect_equal(DTAUS_TOO_LATE, 23, "the number of a name");
     begin("header and archive belong together");
-    expect_equal(DTAUS_VERSION, 4, "the version of the header");
+    expect_equal(DTAUS_VERSION, 3, "the version of the header");
     expect_equal(dtaus_version(), DTAUS_VERSION, "the version of the archive");
 }

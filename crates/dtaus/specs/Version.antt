@@ -3,4 +3,4 @@ use Rattle.std.specs.Prelude.{ℕ}
 
 -- one more with each change of an answer, a figure or a call
 abbrev pub version : ℕ
-version = 4
+version = 3

@@ -91,7 +91,7 @@ fn text_named(wanted: usize) -> Wanted
 }
 
 // As the header's DTAUS_VERSION.
-const VERSION: u32 = 4;
+const VERSION: u32 = 3;
 
 // The version of the header that belongs to the archive.
 pub fn dtaus_version() -> u32
