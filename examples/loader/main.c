@@ -1,29 +1,27 @@
-// The loader: reads a medium of DTAUS files, has the library load it, and writes its rows for a
-// store, or says why not. It ends with 0 where the output is written, with 1 where the medium is
-// refused, and with 2 where the medium cannot be read or the output not be written: then nothing is
-// said about the medium. It also ends with 2 where the output is written and only the figures could
-// not be printed.
+// The loader: reads a DTAUS file, has the library load it, and writes its rows for a store, or says
+// why not. It ends with 0 where the output is written, with 1 where the file is refused, and with 2
+// where the file cannot be read or the output not be written: then nothing is said about the file.
+// It also ends with 2 where the output is written and only the figures could not be printed.
 #include <errno.h>
 #include <inttypes.h>
 #include <stdlib.h>
 #include <string.h>
 
-#include "copy_script.h"
+#include "copy_binary.h"
 #include "dtaus.h"
 #include "input.h"
-#include "medium.h"
 #include "output.h"
+#include "payments.h"
 #include "refusals.h"
-#include "rows.h"
 #include "sql_script.h"
 
 enum { DONE = 0, REFUSED = 1, FAILED = 2 };
 
 // What the command line asks for.
 struct request {
-    write_tables *form;
-    uint64_t medium_number;
-    const char *medium;
+    write_rows *rows;
+    uint64_t file_number;
+    const char *file;
     const char *output;
 };
 
@@ -33,15 +31,15 @@ static int failed(const char *name) {
 }
 
 static int usage(void) {
-    fputs("usage: loader --postgresql | --sqlite MEDIUM-NUMBER MEDIUM OUTPUT\n", stderr);
+    fputs("usage: loader --postgresql | --sqlite FILE-NUMBER FILE OUTPUT\n", stderr);
     return FAILED;
 }
 
-static bool parse_form(const char *word, write_tables **form) {
+static bool parse_form(const char *word, write_rows **rows) {
     if (strcmp(word, "--postgresql") == 0) {
-        *form = write_copy_script;
+        *rows = write_copy_binary;
     } else if (strcmp(word, "--sqlite") == 0) {
-        *form = write_sql_script;
+        *rows = write_sql_script;
     } else {
         return false;
     }
@@ -49,7 +47,7 @@ static bool parse_form(const char *word, write_tables **form) {
 }
 
 // Digits alone, and no more than a bigint holds.
-static bool parse_medium_number(const char *word, uint64_t *number) {
+static bool parse_file_number(const char *word, uint64_t *number) {
     if (*word == '\0' || word[strspn(word, "0123456789")] != '\0') {
         return false;
     }
@@ -59,41 +57,34 @@ static bool parse_medium_number(const char *word, uint64_t *number) {
 }
 
 static bool parse_request(int count, char **words, struct request *request) {
-    if (count != 5 || !parse_form(words[1], &request->form) ||
-        !parse_medium_number(words[2], &request->medium_number)) {
+    if (count != 5 || !parse_form(words[1], &request->rows) ||
+        !parse_file_number(words[2], &request->file_number)) {
         return false;
     }
-    request->medium = words[3];
+    request->file = words[3];
     request->output = words[4];
     return true;
 }
 
-// A line for the medium, then one for each file.
-static bool print_figures(const struct medium *medium) {
-    printf("files %" PRIu64 ", payments %" PRIu64 "\n", medium->file_count, medium->payment_count);
-    for (size_t i = 0; i < medium->file_count; i++) {
-        printf("file %zu at %" PRIu64 ": payments %" PRIu64 ", accounts %" PRIu64, i,
-               medium->file_starts[i], medium->file_counts[i], medium->file_accounts[i]);
-        printf(", bank codes %" PRIu64 ", cents %" PRIu64 "\n", medium->file_bank_codes[i],
-               medium->file_cents[i]);
-    }
+static bool print_figures(const struct payments *payments) {
+    printf("payments %" PRIu64 ", accounts %" PRIu64, payments->count, payments->sum_of_accounts);
+    printf(", bank codes %" PRIu64 ", cents %" PRIu64 "\n", payments->sum_of_bank_codes,
+           payments->sum_of_cents);
     return fflush(stdout) == 0 && !ferror(stdout);
 }
 
 // Answers the request with what the library told: nothing is written before it has accepted the
-// whole medium.
-static int answer(const struct request *request, const struct medium *medium) {
-    if (medium->number != DTAUS_ACCEPTED) {
-        fprintf(stderr, "%s: refused %u at byte %" PRIu64 ": %s\n", request->medium, medium->number,
-                medium->place, reason(medium->number));
+// whole file.
+static int answer(const struct request *request, const struct payments *payments) {
+    if (payments->number != DTAUS_ACCEPTED) {
+        fprintf(stderr, "%s: refused %u at byte %" PRIu64 ": %s\n", request->file, payments->number,
+                payments->place, reason(payments->number));
         return REFUSED;
     }
-    struct table tables[TABLES];
-    list_tables(request->medium_number, medium, tables);
-    if (!write_output(request->output, request->form, tables)) {
+    if (!write_output(request->output, request->rows, request->file_number, payments)) {
         return failed(request->output);
     }
-    return print_figures(medium) ? DONE : failed("standard output");
+    return print_figures(payments) ? DONE : failed("standard output");
 }
 
 int main(int count, char **words) {
@@ -101,17 +92,17 @@ int main(int count, char **words) {
     if (!parse_request(count, words, &request)) {
         return usage();
     }
-    struct input input;
-    if (!read_input(request.medium, &input)) {
-        return failed(request.medium);
+    struct input file;
+    if (!read_input(request.file, &file)) {
+        return failed(request.file);
     }
-    struct medium medium;
-    bool loaded = load_medium(&input, &medium);
-    release_input(&input);
+    struct payments payments;
+    bool loaded = load_payments(&file, &payments);
+    release_input(&file);
     if (!loaded) {
-        return failed(request.medium);
+        return failed(request.file);
     }
-    int status = answer(&request, &medium);
-    release_medium(&medium);
+    int status = answer(&request, &payments);
+    release_payments(&payments);
     return status;
 }

@@ -51,23 +51,24 @@ static bool give_mode(int descriptor) {
     return fchmod(descriptor, 0666 & ~kept_back) == 0;
 }
 
-static bool write_stream(int descriptor, write_tables *form, const struct table tables[TABLES]) {
+static bool write_stream(int descriptor, write_rows *rows, uint64_t file_number,
+                         const struct payments *payments) {
     FILE *stream = give_mode(descriptor) ? fdopen(descriptor, "wb") : NULL;
     if (stream == NULL) {
         close(descriptor);
         return false;
     }
-    form(stream, tables);
+    rows(stream, file_number, payments);
     return finish(stream);
 }
 
-static bool write_and_rename(char *temporary, const char *name, write_tables *form,
-                             const struct table tables[TABLES]) {
+static bool write_and_rename(char *temporary, const char *name, write_rows *rows,
+                             uint64_t file_number, const struct payments *payments) {
     int descriptor = mkstemp(temporary);
     if (descriptor < 0) {
         return false;
     }
-    if (write_stream(descriptor, form, tables) && rename(temporary, name) == 0) {
+    if (write_stream(descriptor, rows, file_number, payments) && rename(temporary, name) == 0) {
         return true;
     }
     int reason = errno;
@@ -76,7 +77,8 @@ static bool write_and_rename(char *temporary, const char *name, write_tables *fo
     return false;
 }
 
-bool write_output(const char *name, write_tables *form, const struct table tables[TABLES]) {
+bool write_output(const char *name, write_rows *rows, uint64_t file_number,
+                  const struct payments *payments) {
     if (!may_be_replaced(name)) {
         return false;
     }
@@ -84,7 +86,7 @@ bool write_output(const char *name, write_tables *form, const struct table table
     if (temporary == NULL) {
         return false;
     }
-    bool done = write_and_rename(temporary, name, form, tables);
+    bool done = write_and_rename(temporary, name, rows, file_number, payments);
     int reason = errno;
     free(temporary);
     errno = reason;

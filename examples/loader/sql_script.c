@@ -1,6 +1,7 @@
-// Writes the rows as a script for the shell of SQLite that inserts all of them, table by table, in
-// one transaction.
+// Writes the rows as a script for the shell of SQLite that inserts all of them in one transaction.
 #include "sql_script.h"
+
+#include <inttypes.h>
 
 // Enough rows that SQLite does not spend its time on parsing statements, and far below its longest
 // statement.
@@ -9,26 +10,31 @@ enum { ROWS_OF_INSERT = 500 };
 // Without .bail the shell would go on after a failed insert, and commit the others.
 static const char beginning[] = ".bail on\nbegin;\n";
 
-static void write_insert(FILE *stream, const struct table *table, uint64_t from, uint64_t to) {
-    fprintf(stream, "insert into %s (%s) values\n", table->name, table->columns);
-    for (uint64_t row = from; row < to; row++) {
-        fputc('(', stream);
-        write_row(stream, table, row, ',');
-        fputs(row + 1 < to ? "),\n" : ");\n", stream);
+static const char insert[] = "insert into payments (file_number, payment_number, bank_code, "
+                             "account, cents, start_byte) values\n";
+
+static void write_row(FILE *stream, uint64_t file_number, const struct payments *payments,
+                      size_t row) {
+    fprintf(stream, "(%" PRIu64 ",%zu,%" PRIu64 ",%" PRIu64 ",%" PRIu64 ",%" PRIu64 ")",
+            file_number, row, payments->bank_codes[row], payments->accounts[row],
+            payments->cents[row], payments->starts[row]);
+}
+
+static void write_insert(FILE *stream, uint64_t file_number, const struct payments *payments,
+                         size_t from, size_t to) {
+    fputs(insert, stream);
+    for (size_t row = from; row < to; row++) {
+        write_row(stream, file_number, payments, row);
+        fputs(row + 1 < to ? ",\n" : ";\n", stream);
     }
 }
 
-static void write_inserts(FILE *stream, const struct table *table) {
-    for (uint64_t from = 0; from < table->rows; from += ROWS_OF_INSERT) {
-        uint64_t left = table->rows - from;
-        write_insert(stream, table, from, from + (left < ROWS_OF_INSERT ? left : ROWS_OF_INSERT));
-    }
-}
-
-void write_sql_script(FILE *stream, const struct table tables[TABLES]) {
+void write_sql_script(FILE *stream, uint64_t file_number, const struct payments *payments) {
     fputs(beginning, stream);
-    for (size_t i = 0; i < TABLES; i++) {
-        write_inserts(stream, &tables[i]);
+    for (size_t from = 0; from < payments->count; from += ROWS_OF_INSERT) {
+        size_t left = payments->count - from;
+        write_insert(stream, file_number, payments, from,
+                     from + (left < ROWS_OF_INSERT ? left : ROWS_OF_INSERT));
     }
     fputs("commit;\n", stream);
 }

@@ -4,6 +4,6 @@
 
 #include "output.h"
 
-write_tables write_sql_script;
+write_rows write_sql_script;
 
 #endif

@@ -1,0 +1,9 @@
+// The rows as a script for SQLite's shell.
+#ifndef SQL_SCRIPT_H
+#define SQL_SCRIPT_H
+
+#include "output.h"
+
+write_tables write_sql_script;
+
+#endif
