@@ -11,11 +11,11 @@ abbrev pub must : Name → List ℕ → Form Name (Value (fixed []))
 must ν bs = any ν (fixed bs)
 
 abbrev pub date_number : DateCase → ℕ
-date_number no-such-day = 10
-date_number too-late = 23
+date_number no_such_day = 10
+date_number too_late = 23
 
 abbrev pub day_rules : ℕ → List Rule
-day_rules n = rule 10 (is_day n) ∷ rule (date_number no-such-day) (is_year n) ∷ rule (date_number too-late) (in_span n) ∷ []
+day_rules n = rule 10 (is_day n) ∷ rule (date_number no_such_day) (is_year n) ∷ rule (date_number too_late) (in_span n) ∷ []
 
 abbrev pub rules_a2 : Option ℕ → List Rule
 rules_a2 none = []

@@ -81,7 +81,7 @@ class TestDemands(RulesTest):
         self.assert_faults(TREE, "rule 14 (eqb v counted) ∷ []", rules, fault)
 
     def test_a_number_that_a_case_is_given_otherwise(self) -> None:
-        reported = self.reported(TREE, "too-late = 23", "too-late = 22")
+        reported = self.reported(TREE, "too_late = 23", "too_late = 22")
         self.assertIn(f"{TREE}: A2 with 22, (in_span n): {TABLE} has no row for it", reported)
 
     def test_a_number_that_the_reader_gives_otherwise(self) -> None:

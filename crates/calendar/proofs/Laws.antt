@@ -2,7 +2,7 @@
 use Prim.Native.Nat.{ℕ, zero, suc, ◌+◌, ◌-◌, ◌*◌, ◌≤◌}
 use native.Mathlib.Omega.{arith}
 use mathlib.Core.Path.{◌≡◌, refl}
-use Rattle.document.specs.Calendar.{Day, years_days, months_days, day_number, DateCase, in_order, no-such-day, too-early, too-late}
+use Rattle.document.specs.Calendar.{Day, years_days, months_days, day_number, DateCase, in_order, no_such_day, too_early, too_late}
 use Rattle.document.proofs.CalendarLaws.{month_most}
 use Rattle.calendar.specs.declared.DateCase as calendar
 use Rattle.calendar.specs.declared.DateCase.TheVariants.{InOrder, NoSuchDay, TooEarly, TooLate}
@@ -26,13 +26,13 @@ number_most d = omega (arith, years_most (d.year - 1), months_most d.year (d.mon
 -- the case of the rules that a case of the code is
 abbrev pub case_of : calendar.DateCase → DateCase
 case_of InOrder = in_order
-case_of NoSuchDay = no-such-day
-case_of TooEarly = too-early
-case_of TooLate = too-late
+case_of NoSuchDay = no_such_day
+case_of TooEarly = too_early
+case_of TooLate = too_late
 
 -- there and back
 pub case_back : (c : DateCase) → case_of (case_from c) ≡ c
 case_back in_order = refl
-case_back no-such-day = refl
-case_back too-early = refl
-case_back too-late = refl
+case_back no_such_day = refl
+case_back too_early = refl
+case_back too_late = refl

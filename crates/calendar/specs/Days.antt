@@ -1,5 +1,5 @@
 -- Days of the code and days of the rules, and the code's cases of a date.
-use Rattle.document.specs.Calendar.{in_order, no-such-day, too-early, too-late}
+use Rattle.document.specs.Calendar.{in_order, no_such_day, too_early, too_late}
 use Rattle.document.specs.Calendar as document
 use Rattle.calendar.specs.declared.Day.{Day}
 use Rattle.calendar.specs.declared.DateCase.{DateCase}
@@ -16,6 +16,6 @@ day_from d = record { day = d.day; month = d.month; year = d.year }
 -- the case of the code that a case of the rules is
 abbrev pub case_from : document.DateCase → DateCase
 case_from in_order = InOrder
-case_from no-such-day = NoSuchDay
-case_from too-early = TooEarly
-case_from too-late = TooLate
+case_from no_such_day = NoSuchDay
+case_from too_early = TooEarly
+case_from too_late = TooLate

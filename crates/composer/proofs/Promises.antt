@@ -19,7 +19,7 @@ use Rattle.diskette.specs.Answer.{answer}
 use Rattle.listing.specs.Listing.{listing}
 use Rattle.listing.specs.Composing.{Composed, made, denied, compose}
 use Rattle.listing.specs.Endings.{composed}
-use Rattle.listing.proofs.NumberLaws.{number_listed as listing-number, never_zero}
+use Rattle.listing.proofs.NumberLaws.{number_listed as listing_number, never_zero}
 use Rattle.listing.proofs.Promises.{listing_composes, composes_exactly, listing_round}
 use Rattle.output.specs.declared.Written.{Written}
 use Rattle.output.proofs.EndingLaws as endings
@@ -36,7 +36,7 @@ composed_number l = by (compose l) refl
   where
     by : (c : Composed Document) → compose l ≡ c → endings.RefusedWith (0 ∷ of_compose) (composed c)
     by (made d) e = tt
-    by (denied v) e = one_within of_listing (0 ∷ of_compose) v.number tt (listing-number l v e)
+    by (denied v) e = one_within of_listing (0 ∷ of_compose) v.number tt (listing_number l v e)
 
 module _ (l old : List ℕ) where
   pub one_answer : (r s : Written) (a b : List ℕ) → Says l old r a → Says l old s b → (r ≡ s) × (a ≡ b)

@@ -13,7 +13,7 @@ use lib.Dec.{T, eqb, lt→ltb, eqb→eq}
 use borrow.Author.Tests.{ne_eqb}
 use Rattle.form.specs.Kind.{numeral}
 use Rattle.form.specs.Form.{Holds, Form, ret, fork, ◌>>=◌, Filled, value, bytes}
-use Rattle.form.proofs.RulesLaws.{Filling, Told, Says, then_fill, then_told, fork_no, fork-see}
+use Rattle.form.proofs.RulesLaws.{Filling, Told, Says, then_fill, then_told, fork_no, fork_see}
 use Rattle.document.specs.Values.{Header, Payment, Document, Totals, no_totals, adding, totals, together}
 use Rattle.document.specs.Rules.{most_payments, LegalHeader, Legal}
 use Rattle.diskette.specs.Writing.{length_of, write_header, write_body, write_payments, write_figures, write_end, write}
@@ -123,7 +123,7 @@ module _ (left : ℕ) (kind : List ℕ) (t : Totals) (h : t.count + suc left ≡
       told : (r : Filled (payments (suc left) kind t)) → Told (GoodFrom (suc left) kind t) (rest t) (value (payments (suc left) kind t) r) (bytes (payments (suc left) kind t) r)
       told r =
           let l : ℕ = r.0.0 in
-          fork-see (eqb l 128) (end t) (more l) (λ v bs. Told (GoodFrom (suc left) kind t) (rest t) v (numeral 4 l ++ bs))
+          fork_see (eqb l 128) (end t) (more l) (λ v bs. Told (GoodFrom (suc left) kind t) (rest t) v (numeral 4 l ++ bs))
           (λ x s. ends_told (suc left) kind t l (eqb→eq l 128 x) r.0.2 w s) (λ x s. more_told l s) r.1
 
 pub payments_says : (left : ℕ) (kind : List ℕ) (t : Totals) → t.count + left ≡ most_payments → Within t → Says (payments left kind t) (GoodFrom left kind t) (rest t)

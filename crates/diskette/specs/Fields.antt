@@ -5,7 +5,7 @@ use Rattle.std.proofs.Math.Option.{Option, none, some}
 use Rattle.form.specs.Kind.{Kind, fixed, digits, maybe, text, choice, Value, blanks}
 use Rattle.form.specs.Form.{Rule, rule, Form, ret, get, any, fork, ◌>>=◌, ◌>>◌}
 use Rattle.document.specs.Signs.{ascii, zeros, sign, not_all_blank}
-use Rattle.document.specs.Calendar.{Day, is_day, not_too_early, not_too_late, DateCase, in_order, no-such-day, too-early, too-late, of_ddmmyy, of_ddmmyyyy}
+use Rattle.document.specs.Calendar.{Day, is_day, not_too_early, not_too_late, DateCase, in_order, no_such_day, too_early, too_late, of_ddmmyy, of_ddmmyyyy}
 use Rattle.document.specs.Values.{Header, Part, Payment, Document, Totals, no_totals, adding}
 use Rattle.document.specs.Rules.{most_payments, most_cents, sum_limit, file_kinds, sending_bank_ok, bank_code_ok, customer_ok, not_zero, key_ok, supplement_ok}
 use Rattle.document.specs.Marks.{room_after, mark_ok}
@@ -37,12 +37,12 @@ rules_a5 kind v = rule 11 (sending_bank_ok kind v) ∷ []
 -- the number of each case of a date
 abbrev pub date_number : DateCase → ℕ
 date_number in_order = 0
-date_number no-such-day = 10
-date_number too-early = 22
-date_number too-late = 23
+date_number no_such_day = 10
+date_number too_early = 22
+date_number too_late = 23
 
 abbrev pub rules_a7 : ℕ → List Rule
-rules_a7 n = rule (date_number no-such-day) (is_day (of_ddmmyy n)) ∷ []
+rules_a7 n = rule (date_number no_such_day) (is_day (of_ddmmyy n)) ∷ []
 
 -- A11b as read: no date, or a day
 abbrev pub execution_of : Option ℕ → Option Day
@@ -52,9 +52,9 @@ execution_of (some n) = some (of_ddmmyyyy n)
 abbrev pub execution_rules : Day → Option Day → List Rule
 execution_rules made none = []
 execution_rules made (some d) =
-    rule (date_number no-such-day) (is_day d)
-    ∷ rule (date_number too-early) (not_too_early made d)
-    ∷ rule (date_number too-late) (not_too_late made d)
+    rule (date_number no_such_day) (is_day d)
+    ∷ rule (date_number too_early) (not_too_early made d)
+    ∷ rule (date_number too_late) (not_too_late made d)
     ∷ []
 
 abbrev pub rules_a11b : Day → Option ℕ → List Rule

@@ -14,22 +14,22 @@ use mathlib.Core.Option.{some}
 use lib.Dec.{T, ltb, leb→le}
 use borrow.Author.Tests.{ltb-true, leb-false, lt-ltb, le-ltb, le-leb, lt-leb, eq-eqb, ne_eqb}
 use Rattle.form.proofs.BoolLaws.{is_true, T_of, and_both, and_of}
-use Rattle.document.specs.Calendar.{Day, is_day, month_days, tomorrow, days_after, day_number, span_days, OnOrSoonAfter, before, TooEarly, TooLate, not_too_early, not_too_late, DateCase, in_order, no-such-day, too-early, too-late, IsCase, date_case}
+use Rattle.document.specs.Calendar.{Day, is_day, month_days, tomorrow, days_after, day_number, span_days, OnOrSoonAfter, before, TooEarly, TooLate, not_too_early, not_too_late, DateCase, in_order, no_such_day, too_early, too_late, IsCase, date_case}
 use Rattle.document.specs.Rules.{LegalExecution}
 use Rattle.document.proofs.CalendarLaws.{IsDay, see_day, later_year, later_month, number_one, number_most, last_day, steps_counted, steps_from, span_inside, span_counted}
 
 -- ---- what a date is, by the numbers of the two days
 
 module _ (made d : Day) where
-  pub case_no_day : is_day d ≡ false → date_case made d ≡ no-such-day
+  pub case_no_day : is_day d ≡ false → date_case made d ≡ no_such_day
   unfolding date_case
   case_no_day e = rw e
 
-  pub case_early : is_day d ≡ true → day_number d < day_number made → date_case made d ≡ too-early
+  pub case_early : is_day d ≡ true → day_number d < day_number made → date_case made d ≡ too_early
   unfolding date_case not_too_early
   case_early e l = rw (e, lt-leb (day_number made) (day_number d) l)
 
-  pub case_late : is_day d ≡ true → day_number made ≤ day_number d → day_number made + span_days < day_number d → date_case made d ≡ too-late
+  pub case_late : is_day d ≡ true → day_number made ≤ day_number d → day_number made + span_days < day_number d → date_case made d ≡ too_late
   unfolding date_case not_too_early not_too_late
   case_late e from l = rw (e, le-leb (day_number made) (day_number d) from, lt-leb (day_number d) (day_number made + span_days) l)
 
@@ -143,7 +143,7 @@ module _ (made d : Day) (h : IsDay made) (y : made.year < 9999) where
   is_its_case = by (is_day d) (not_too_early made d) (not_too_late made d) refl refl refl
     where
       by : (b early late : Bool) → is_day d ≡ b → not_too_early made d ≡ early → not_too_late made d ≡ late
-          → IsCase made d (cond b (cond early (cond late in_order too-late) too-early) no-such-day)
+          → IsCase made d (cond b (cond early (cond late in_order too_late) too_early) no_such_day)
       by false x z p q r = p
       by true false z p q r = let t = T_of p in (t, (early_counted made d h y (see_day d t)).1 q)
       by true true false p q r = let t = T_of p in (t, (late_counted made d h y (see_day d t)).1 r)
@@ -156,9 +156,9 @@ module _ (made d : Day) (h : IsDay made) (y : made.year < 9999) where
   only_its_case in_order x =
       let b = span_both made d h y (see_day d x.0) x.1 in
       case_in_order made d (is_true (is_day d) x.0) (leb→le (day_number made) (day_number d) b.0) (leb→le (day_number d) (day_number made + span_days) b.1)
-  only_its_case no-such-day x = case_no_day made d x
-  only_its_case too-early x = case_early made d (is_true (is_day d) x.0) ((before_lower d made (see_day d x.0) h).0 x.1)
-  only_its_case too-late x =
+  only_its_case no_such_day x = case_no_day made d x
+  only_its_case too_early x = case_early made d (is_true (is_day d) x.0) ((before_lower d made (see_day d x.0) h).0 x.1)
+  only_its_case too_late x =
       let l = (late_higher made d h y (see_day d x.0)).0 x.1 in
       case_late made d (is_true (is_day d) x.0) (omega arith) l
 

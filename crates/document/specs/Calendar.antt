@@ -91,18 +91,18 @@ in_span made d = not_too_early made d && not_too_late made d
 -- ---- what a date can be
 
 pub data DateCase : Type 0 where
-  in_order no-such-day too-early too-late : DateCase
+  in_order no_such_day too_early too_late : DateCase
 
 -- when a date of execution is which, where the file was made on the day `made`
 abbrev pub IsCase : Day → Day → DateCase → Type 0
 IsCase made d in_order = T (is_day d) × OnOrSoonAfter made d
-IsCase made d no-such-day = is_day d ≡ false
-IsCase made d too-early = T (is_day d) × TooEarly made d
-IsCase made d too-late = T (is_day d) × TooLate made d
+IsCase made d no_such_day = is_day d ≡ false
+IsCase made d too_early = T (is_day d) × TooEarly made d
+IsCase made d too_late = T (is_day d) × TooLate made d
 
 -- which it is, counted
 unfoldable pub date_case : Day → Day → DateCase
-date_case made d = cond (is_day d) (cond (not_too_early made d) (cond (not_too_late made d) in_order too-late) too-early) no-such-day
+date_case made d = cond (is_day d) (cond (not_too_early made d) (cond (not_too_late made d) in_order too_late) too_early) no_such_day
 
 -- ---- DDMMYY and DDMMYYYY as numbers
 

@@ -2,7 +2,7 @@
 use Rattle.std.specs.Prelude.{ℕ, ◌≡◌, refl, Bool, true, false, List, [], ◌∷◌, map}
 use Rattle.form.specs.Kind.{every, one, among}
 use Rattle.document.specs.Signs.{ascii, sign, not_all_blank}
-use Rattle.document.specs.Calendar.{Day, leap_day, month_days, is_day, years_days, months_days, day_number, not_too_early, not_too_late, DateCase, in_order, no-such-day, too-early, too-late, date_case, of_ddmmyy}
+use Rattle.document.specs.Calendar.{Day, leap_day, month_days, is_day, years_days, months_days, day_number, not_too_early, not_too_late, DateCase, in_order, no_such_day, too_early, too_late, date_case, of_ddmmyy}
 use Rattle.document.specs.Rules.{file_kinds, sending_bank_ok, bank_code_ok, customer_ok, not_zero, key_ok, supplement_ok}
 
 -- what a definition says of a value, and what it is to say
@@ -84,25 +84,25 @@ unfoldable pub date_examples : List DateExample
 unfolding of_ddmmyy
 date_examples =
     -- the day before, the day itself, 15 and 16 days after it
-    executed (on 15 3 2004) (on 14 3 2004) too-early
+    executed (on 15 3 2004) (on 14 3 2004) too_early
     ∷ executed (on 15 3 2004) (on 15 3 2004) in_order
     ∷ executed (on 15 3 2004) (on 30 3 2004) in_order
-    ∷ executed (on 15 3 2004) (on 31 3 2004) too-late
+    ∷ executed (on 15 3 2004) (on 31 3 2004) too_late
     -- 29 February of a leap year, and of years that end a century
-    ∷ executed (on 15 3 2004) (on 29 2 2000) too-early
-    ∷ executed (on 15 3 2004) (on 29 2 1900) no-such-day
-    ∷ executed (on 15 3 2004) (on 29 2 2100) no-such-day
+    ∷ executed (on 15 3 2004) (on 29 2 2000) too_early
+    ∷ executed (on 15 3 2004) (on 29 2 1900) no_such_day
+    ∷ executed (on 15 3 2004) (on 29 2 2100) no_such_day
     ∷ executed (on 28 2 2000) (on 29 2 2000) in_order
     -- the year 0, which has no day, and the first and the last year
-    ∷ executed (on 15 3 2004) (on 15 3 0) no-such-day
-    ∷ executed (on 15 3 2004) (on 1 1 1) too-early
-    ∷ executed (on 15 3 2004) (on 31 12 9999) too-late
+    ∷ executed (on 15 3 2004) (on 15 3 0) no_such_day
+    ∷ executed (on 15 3 2004) (on 1 1 1) too_early
+    ∷ executed (on 15 3 2004) (on 31 12 9999) too_late
     -- across a year's end and the century's pivot
     ∷ executed (of_ddmmyy 311299) (on 1 1 2000) in_order
     ∷ executed (of_ddmmyy 311279) (on 15 1 2080) in_order
-    ∷ executed (of_ddmmyy 311279) (on 16 1 2080) too-late
+    ∷ executed (of_ddmmyy 311279) (on 16 1 2080) too_late
     ∷ executed (of_ddmmyy 10180) (on 16 1 1980) in_order
-    ∷ executed (of_ddmmyy 10180) (on 1 1 2080) too-late
+    ∷ executed (of_ddmmyy 10180) (on 1 1 2080) too_late
     ∷ []
 
 pub date_examples_hold : map (λ (x : DateExample). date_case x.made x.execution) date_examples ≡ map (λ (x : DateExample). x.wanted) date_examples

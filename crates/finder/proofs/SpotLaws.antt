@@ -18,7 +18,7 @@ use Rattle.diskette.specs.Fields.{Name}
 use Rattle.diskette.specs.Answer.{answer, outcome, payments_of}
 use Rattle.layout.specs.Steps.{first_payment, parts_at}
 use Rattle.layout.proofs.CellLaws.{beyond}
-use Rattle.layout.proofs.PaymentLaws.{Begun, few as few-there, parts_there}
+use Rattle.layout.proofs.PaymentLaws.{Begun, few as few_there, parts_there}
 use Rattle.layout.proofs.StepLaws.{payments_coming}
 use Rattle.checker.specs.declared.Checked.{Checked}
 use Rattle.checker.specs.Checking.{checked_of}
@@ -132,7 +132,7 @@ module _ (f : List ℕ) {c : Checked} (told : c ≡ checked_of (outcome (answer 
         has_it = text_told w here.0 ∙ ap (has_text w) (sym (parts ∙ parts_there stands))
 
         pub few : k ≤ most_parts
-        few = omega (arith, few-there stands, parts ∙ parts_there stands)
+        few = omega (arith, few_there stands, parts ∙ parts_there stands)
 
         pub locate_no_text : has_text w k ≡ false → no_such ≡ locate_at f start w
         locate_no_text e = sym (of_text ∙ ap (λ o. if_text o (start + place_of w)) (found_none (text_of w here.0) (has_it ∙ e)))

@@ -71,11 +71,11 @@ pub fork_no : {N A : Type 0} (b : Bool) (m : Form N A) (k : Unit {0} → Form N 
 fork_no true m k t s = absurd t
 fork_no false m k t s = (s, refl, refl)
 
-pub fork-see {ℓ} : {N A : Type 0} (b : Bool) (m : Form N A) (k : Unit {0} → Form N A) (P : A → List ℕ → Type ℓ)
+pub fork_see {ℓ} : {N A : Type 0} (b : Bool) (m : Form N A) (k : Unit {0} → Form N A) (P : A → List ℕ → Type ℓ)
     → (T b → (s : Filled m) → P (value m s) (bytes m s)) → (T (not b) → (s : Filled (k tt)) → P (value (k tt) s) (bytes (k tt) s))
     → (r : Filled (fork b m k)) → P (value (fork b m k) r) (bytes (fork b m k) r)
-fork-see true m k P p q r = p tt r
-fork-see false m k P p q r = q tt r
+fork_see true m k P p q r = p tt r
+fork_see false m k P p q r = q tt r
 
 -- ---- rules that speak of values alone
 
