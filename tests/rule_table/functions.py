@@ -8,6 +8,8 @@ from statements.sources import HEAD, read_sources
 
 from .ways import ways_out
 
+# A goal of a way out that a proof answers, without the clause that it may be of.
+ANSWERED = re.compile(r"^pub (returns(?:-(?!clause-)[^\s-]+)*)", re.MULTILINE)
 CONSTANT = re.compile(r"^(?:pub )?const (\w+): u8 = (\d+);", re.MULTILINE)
 
 
@@ -50,3 +52,9 @@ class Functions:
     def ways(self, path: str) -> dict[str, str]:
         """The ways out of a function, by the facts that they are proved as."""
         return ways_out(self.texts.get(path, ""))
+
+    def answered(self, path: str) -> list[str]:
+        """The ways out of a function that its proof answers, by their goals; the check finds the others by itself."""
+        crate, *names = path.split("::")
+        file = self.root.joinpath("crates", crate, "proofs", *names, "Answers.antt")
+        return ANSWERED.findall(file.read_text()) if file.is_file() else []

@@ -28,7 +28,7 @@ def faults_of_line(section: Section, field: Field) -> list[str]:
 
 
 def faults_of_functions(block: Block, functions: Functions) -> list[str]:
-    """The functions exist, each caller calls, and rows stand below."""
+    """The functions exist, each caller calls, rows stand below, and the ways out are named as the proof has them."""
     if not block.tested:
         return ["it does not say by which function it is tested"]
     faults = [f"line {line} has not the form of a row" for line in block.strays]
@@ -40,5 +40,7 @@ def faults_of_functions(block: Block, functions: Functions) -> list[str]:
     named = dict.fromkeys([block.tested, *(path for call in calls for path in call)])
     missing = [path for path in named if not functions.has(path)]
     faults += [f"there is no function {path}" for path in missing]
+    faults += [f"{block.tested} is proved at {goal}, which is none of its ways out"
+               for goal in functions.answered(block.tested) if not functions.has_fact(block.tested, goal)]
     return faults + [f"{one} does not call {other}" for one, other in calls
                      if not {one, other} & set(missing) and not functions.calls(one, other)]

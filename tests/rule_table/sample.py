@@ -370,6 +370,10 @@ Rules: [A2](RULES.md#a2).
 """
 
 
+ANSWERS = """pub returns-then-not-same : goal.returns-then-not-same
+returns-then-not-same c = search rules
+"""
+
 FILES = {
     "crates/diskette/specs/Fields.antt": TREE,
     "crates/diskette/specs/Limits.antt": LIMITS,
@@ -379,6 +383,7 @@ FILES = {
     "crates/checker/specs/Room.antt": ROOM,
     "crates/fields/src/refusals.rt": REFUSALS_OF_CODE,
     "crates/fields/src/lib.rt": FIELDS,
+    "crates/fields/proofs/fixed_at/Answers.antt": ANSWERS,
     "crates/checker/src/lib.rt": CHECKER,
     "crates/fields/must-fail/last_field_is_short.edit": "",
     "crates/fields/must-fail/fixed_bytes_not_compared.edit": "",

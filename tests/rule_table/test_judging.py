@@ -138,6 +138,13 @@ class TestHeads(RulesTest):
         fault = f"{TABLE}: closing: fields::number_at does not call fields::fixed_at"
         self.assert_faults(TABLE, "through `fields::blanks_at`", "through `fields::number_at`", fault)
 
+    def test_a_way_out_that_the_proof_names_otherwise(self) -> None:
+        fault = "fields::fixed_at is proved at returns-then-s, which is none of its ways out"
+        faults = [f"{TABLE}: {name}: {fault}" for name in ("A1", "closing")]
+        answers = "crates/fields/proofs/fixed_at/Answers.antt"
+        self.assert_faults(answers, "pub returns-then-not-same", "pub returns-then-s", *faults)
+        self.assert_faults(answers, "pub returns-then-not-same", "pub returns-then-not-same-clause-answer")
+
     def test_no_function(self) -> None:
         reported = self.reported(TABLE, "Tested by `checker::day_at`", "Looked at by `checker::day_at`")
         self.assertIn(f"{TABLE}: A2: it does not say by which function it is tested", reported)

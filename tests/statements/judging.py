@@ -24,23 +24,29 @@ def judge(root: Path) -> dict[str, list[str]]:
 
 
 def faults_of_contract(function: Function) -> list[str]:
-    """A `requires`, no `ensures`."""
+    """A `requires`, no `ensures`, something lent of which no equation says what it holds afterwards."""
     faults = []
     if function.requires:
         faults.append("it has a requires")
     if not function.ensures:
         faults.append("it has no ensures")
-    return faults
+    if function.reads:
+        return faults
+    return faults + [f"no equation gives what {name} holds afterwards" for name in left_out(function)]
 
 
 def faults_of_statement(function: Function, tables: Tables, root: Path) -> list[str]:
-    """A result, or what is lent as it is afterwards, that neither an equation gives nor a law that stands in its file."""
+    """A result that neither an equation gives nor a law that stands in its file. A function that reads from any reader
+    has a law also of what it is lent: the library says nothing of a buffer behind the bytes that were read."""
     law = tables.laws.get(function.path)
-    left_out = [f"what {name} holds afterwards" for name in function.lent if name not in given_slices(function.ensures)]
-    if function.has_result and not result_is_given(function.ensures):
-        left_out.append("its result")
+    given = not function.has_result or result_is_given(function.ensures)
+    if given and not (function.reads and left_out(function)):
+        return [f"{DOCUMENT} has a law for it, but it needs none"] if law else []
     if law is None:
-        return [f"no equation gives {what}, and {DOCUMENT} has no law for it" for what in left_out]
-    if not left_out:
-        return [f"{DOCUMENT} has a law for it, but it needs none"]
+        return [f"no equation gives its result, and {DOCUMENT} has no law for it"]
     return [] if law.stands(root) else [f"the law {law.name} does not stand in {law.file}"]
+
+
+def left_out(function: Function) -> list[str]:
+    """What is lent and no equation gives."""
+    return [name for name in function.lent if name not in given_slices(function.ensures)]

@@ -8,6 +8,7 @@ COMMENT = re.compile(r"//[^\n]*")
 HEAD = re.compile(r'^( *)(pub +)?(?:pub\(\w+\) +)?(extern +"C" +)?fn +(\w+)[^(]*', re.MULTILINE)
 OWNER = re.compile(r"^impl\b(?:<[^>]*>)? *(\w+)", re.MULTILINE)
 CLAUSE = re.compile(r"(requires|ensures)\b[^{]*")
+READS = re.compile(r": *Read\b")
 LENT = re.compile(r"(\w+) *: *&(?:'\w+ +)?mut\b")
 BRACKETS = {"(": ")", "{": "}"}
 
@@ -23,7 +24,7 @@ class Source:
 
 @dataclass(frozen=True)
 class Function:
-    """A public function: where it stands, the slices that it is lent to write to, and its contract."""
+    """A public function: where it stands, what it is lent to write to, whether a reader is, and its contract."""
 
     crate: str
     module: str
@@ -31,6 +32,7 @@ class Function:
     name: str
     lent: tuple[str, ...]
     has_result: bool
+    reads: bool
     requires: tuple[str, ...]
     ensures: tuple[str, ...]
 
@@ -66,6 +68,7 @@ def read_function(source: Source, head: re.Match[str]) -> Function:
         name=head[4],
         lent=tuple(LENT.findall(source.text, head.end(), end)),
         has_result="->" in result,
+        reads=bool(READS.search(head[0])),
         requires=tuple(text for word, text in clauses if word == "requires"),
         ensures=tuple(text for word, text in clauses if word == "ensures"),
     )

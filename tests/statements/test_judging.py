@@ -204,7 +204,7 @@ class TestJudging(unittest.TestCase):
 
     def test_a_lent_slice_without_statement(self) -> None:
         head = "pub fn call(n: u64, out: &mut [u8]) -> u64"
-        fault = NO_EQUATION.replace("its result", "what out holds afterwards")
+        fault = "no equation gives what out holds afterwards"
         self.assert_fault(function("ensures { result ≡ n }", head), fault)
         for statement in (
             "length out.new ≡ n",
@@ -233,8 +233,12 @@ class TestJudging(unittest.TestCase):
         laws = "module _ (n : ℕ) where\n  pub one_call : (r s : ℕ) → IsMade n r → IsMade n s → r ≡ s\n"
         self.write("crates/wrong/proofs/Laws.antt", laws)
         self.assertEqual(self.judged(ensuring("IsMade n result"), TABLES), {"wrong::call": []})
-        lent = function("ensures { result ≡ n }", "pub fn call(n: u64, out: &mut [u8]) -> u64")
-        self.assertEqual(self.judged(lent, TABLES), {"wrong::call": []})
+
+    def test_a_law_of_what_is_read_into(self) -> None:
+        reading = function("ensures { result ≡ n }", "pub fn call<R: Read>(from: &mut R, n: u64, out: &mut [u8]) -> u64")
+        self.assert_fault(reading, NO_EQUATION)
+        self.write("crates/wrong/proofs/Laws.antt", "pub one_call : ℕ\n")
+        self.assertEqual(self.judged(reading, TABLES), {"wrong::call": []})
 
     def test_a_law_that_does_not_exist(self) -> None:
         fault = "the law one_call does not stand in crates/wrong/proofs/Laws.antt"
@@ -273,7 +277,7 @@ class TestJudging(unittest.TestCase):
         self.assertEqual(report(judged), [
             "wrong::requiring: it has a requires",
             "wrong::silent: it has no ensures",
-            f"wrong::lent: {NO_EQUATION.replace('its result', 'what out holds afterwards')}",
+            "wrong::lent: no equation gives what out holds afterwards",
             f"wrong::bounded: {NO_EQUATION}",
             "wrong::lawless: the law one_lawless does not stand in crates/wrong/proofs/Laws.antt",
             f"wrong::unused: {NO_CALL}",
