@@ -60,7 +60,10 @@ def first_error(refusal: str, crate: Path) -> Fact | None:
 
 
 def function_at(source: Path, line: int) -> str:
-    """The function that a line of a source stands in; an edit leaves the lines where they are."""
-    text = "".join(source.read_text().splitlines(keepends=True)[:line])
+    """The function that a line of a source stands in, or an attribute there is of; an edit leaves the lines as they are."""
+    lines = source.read_text().splitlines(keepends=True)
+    while lines[line - 1].lstrip().startswith("#["):
+        line += 1
+    text = "".join(lines[:line])
     head = [*HEAD.finditer(text)][-1]
     return f"{OWNER.findall(text[:head.start()])[-1]}::{head[4]}" if head[1] else head[4]

@@ -24,6 +24,7 @@ impl Sum {
     }
 }
 
+#[unsafe(no_mangle)]
 pub fn least(v: u64) -> bool
     ensures { result ≡ nat_le 1 v }
 {
@@ -57,6 +58,10 @@ class TestJudging(unittest.TestCase):
 
     def test_a_goal_that_is_left_open(self) -> None:
         self.assertEqual(self.reported(REFUSED + OPEN.format(8)), ["1 passed, 0 failed"])
+
+    def test_a_goal_that_is_told_at_an_attribute(self) -> None:
+        edit = EDIT.replace("`Sum::add`", "`least`")
+        self.assertEqual(self.reported(REFUSED + OPEN.format(12), edit), ["1 passed, 0 failed"])
 
     def test_a_lemma_that_fails(self) -> None:
         edit = EDIT.replace("`returns` of `Sum::add`", "`sum_more` of `Laws`")
