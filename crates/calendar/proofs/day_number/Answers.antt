@@ -1,5 +1,4 @@
 -- calendar::day_number meets its contract: the sum is that of the rule, and the days counted are few.
--- the days of the years and of the months before the day's own
 use Prim.Native.Nat.{◌+◌, ◌*◌, ◌≤◌}
 use native.Mathlib.Omega.{arith}
 use Rattle.document.specs.Calendar.{day_number}

@@ -2,7 +2,7 @@
 -- The loop keeps `Turn`: so many payments were read, which come to these sums, and the answer owed for the file is what the rest from `at` on
 -- gives. Each way through a turn is one law of `TurnLaws`: the first field refuses, E comes, a payment refuses, a payment was read. A payment
 -- comes only where the count is below the most (`one_more`), so that the loop ends and the count does not wrap; what the calls require and the
--- cases of each answer are by `search rules`.
+-- cases of each answer are found by the check.
 use Prim.Native.Nat.{◌-◌}
 use Rattle.document.specs.Rules.{most_payments}
 use Rattle.checker.proofs.TurnLaws.{Turn}

@@ -1,5 +1,4 @@
 -- composer::header_line meets its contract: the line's form, then its record, laid out and read.
--- behind the test the line has its form
 use native.Mathlib.Omega.{arith}
 use mathlib.Core.Path.{refl, sym, ap, ◌∙◌}
 use mathlib.Core.Bool.{true}

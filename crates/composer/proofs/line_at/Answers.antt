@@ -1,7 +1,7 @@
 -- composer::line_at meets its contract: the walk along the line tells of it, or the reading by its record does.
 -- There is no loop. What the walk has seen is told as by the record (`seen_told`). Where it says no, the line's end is looked for: none is the
 -- answer itself, and up to one the line is handed to `payment_line`, whose answer is given on with that end (`returns-3`, `returns-4`). The
--- slice lies in the listing, and its places fit into 64 bits, by `line_inside` and `line_short`; the rest is by `search rules`.
+-- slice lies in the listing, and its places fit into 64 bits, by `line_inside` and `line_short`; the rest is found by the check.
 use native.Mathlib.Omega.{arith}
 use mathlib.Core.Path.{refl, sym, ap, ◌∙◌}
 use Rattle.composer.specs.declared.LaidPayment.TheVariants as laid

@@ -3,11 +3,6 @@
 -- are gathered on the way: k is the number of parts that the line tells (`parts`), the line has its form behind the test (`formed`), and what
 -- was read is the record laid out from the line (`read`). The last is the long one: a front part of the lent space is lent on to be written and
 -- then to be read, so its length has to be known at both (`within`, `long`, `laid-long`).
--- the parts that the line tells
--- behind the test the line has its form, and at most fifteen parts
--- the record has room
--- the record that was laid out, and what stands behind it
--- what is answered of the record f
 use Prim.Native.Nat.{ℕ, ◌*◌, ◌≤◌, min}
 use native.Mathlib.Omega.{arith}
 use mathlib.Core.Path.{◌≡◌, sym, ap, ◌∙◌}

@@ -3,7 +3,6 @@
 -- takes apart what `line_at` told: a payment takes the loop on (`reading_more`), a refusal ends it (`reading_refused`), and a line that has no
 -- end leads to the returns behind the loop (`reading_cut`, `reading_none`, `reading_ends`). The loop ends, and neither count nor size wraps,
 -- since at most 9,999,999 payments are told, none longer than one with the most parts (`one_more`, `record_small`).
--- the space is as long as it was
 use Prim.Native.Nat.{◌-◌, ◌*◌}
 use mathlib.Core.Path.{◌≡◌}
 use lib.ListN.{length}

@@ -3,7 +3,6 @@
 -- stand the lines of the accepted payments (`payments_accepted`), and the figures have room in E (`writable`). Each is lent a part of the
 -- output; that the output keeps its length, has room for E at the end and then begins with the file is followed in FileLaws (`first_long`,
 -- `end_room`, `file_written`).
--- there is room for E
 use Prim.Native.Nat.{◌+◌, ◌≤◌}
 use native.Mathlib.Omega.{arith}
 use mathlib.Core.Path.{sym}

@@ -1,6 +1,4 @@
 -- composer::write_payment meets its contract: the payment's record is laid out where it belongs.
--- the parts that the line tells
--- the bytes that the payment's record takes
 use Prim.Native.Nat.{◌+◌, ◌*◌, ◌≤◌}
 use native.Mathlib.Omega.{arith}
 use mathlib.Core.Path.{◌≡◌, sym, ap, ◌∙◌, subst}

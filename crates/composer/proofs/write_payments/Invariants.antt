@@ -2,8 +2,6 @@
 -- The loop keeps `Putting`: the records of the payments passed stand in the output, and the lines from p on tell the others. As long as a
 -- payment is still to come (`left`), its line is ended (`ends`, found from behind its numbers by `texts_end`), has the form that `write_payment`
 -- asks for (`line_written`), and its record fits (`next_room`); `putting_more` is the turn. Behind the last all records stand there (`all_put`).
--- a payment is still to come
--- where the line of the next payment ends
 use Prim.Native.Nat.{◌-◌}
 use Rattle.listing.specs.Composing.{compose}
 use Rattle.composer.specs.Writing.{composed_payments}

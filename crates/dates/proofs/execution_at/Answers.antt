@@ -2,13 +2,7 @@
 -- Each of the six ways out is one law of `LeafLaws`: the leaf's refusal by `field_fails`, each of the three dates that are not in order by
 -- `field_broken`, no date and a date in order by `field_holds`. The leaf's answer tells blanks, the number or the refusal (`blank_is`, `some_is`,
 -- `maybe_fails`); a number of eight digits names in the code the day that it names in the rules (`named`), so that the case of `date_case` is
--- that of this day (`told`), and the field's rules give what they give in this case (`settled`). The other facts are by `search rules`.
--- the number that was read
--- it stands there, and behind it is the next place
--- the day of the code is the one that the number names in the rules
--- the case that was matched is that of this day in the rules
--- so the field's rules say what they say in this case
--- and where they are broken by n, the field is refused with n
+-- that of this day (`told`), and the field's rules give what they give in this case (`settled`). The other facts are found by the check.
 use Prim.Native.Nat.{ℕ, ◌+◌}
 use mathlib.Core.Option.{some}
 use mathlib.Core.Path.{◌≡◌, ◌∙◌, ap, ap₂, refl, sym}

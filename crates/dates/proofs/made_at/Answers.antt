@@ -1,6 +1,4 @@
 -- dates::made_at meets its contract: six digits, then the day that they name.
--- the number that was read, and the place behind it
--- the day of the code is the one that the number names in the rules
 use Prim.Native.Nat.{◌+◌}
 use mathlib.Core.Path.{◌≡◌, ◌∙◌, ap, ap₂, sym}
 use borrow.Author.Tests.{not-false, not-true}

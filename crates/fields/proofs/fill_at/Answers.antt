@@ -1,5 +1,4 @@
 -- fields::fill_at meets its contract: whole, then every byte.
--- the field is whole
 use Rattle.std.proofs.Common.{◌≡◌, ◌+◌, true, leb, length, take, drop, replicate, sym, ◌∙◌, arith}
 use native.Mathlib.Nat.{add-sub_cancel_left}
 use lib.ListN.{length-replicate}

@@ -1,5 +1,4 @@
 -- fields::kind_at meets its contract: whole, then the two letters.
--- the field is whole
 use Rattle.std.proofs.Common.{◌≡◌, ◌+◌, true, leb, [], ◌∷◌, length, get_or, sym, refl, ◌∙◌, arith}
 use borrow.Author.Tests.{not-false, not-true}
 use Rattle.form.specs.Kind.{choice}

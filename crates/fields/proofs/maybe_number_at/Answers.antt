@@ -1,8 +1,7 @@
 -- fields::maybe_number_at meets its contract: whole, then all blanks, then every digit.
 -- Each of the four ways out is one law of `LeafLaws`: too short by `leaf_short`, blanks and a number by `leaf_right`, no digit by `leaf_wrong`.
 -- The form's test for blanks is the code's by `judge_maybe`, and behind it `maybe_are` and `maybe_not` say what `digits_of` came to. That the
--- stretch ends in the file follows from `whole`; the other facts are by `search rules`.
--- the field is whole
+-- stretch ends in the file follows from `whole`; the other facts are found by the check.
 use Rattle.std.proofs.Common.{◌≡◌, ◌+◌, true, leb, length, take, drop, sym, refl, ◌∙◌, arith}
 use native.Mathlib.Nat.{add-sub_cancel_left}
 use mathlib.Core.Option.{none, some}

@@ -1,8 +1,7 @@
 -- fields::name_at meets its contract: whole, then every sign, then one that is no blank.
 -- Each of the four ways out is one law of `LeafLaws`: too short and no sign by `field_fails`, all blank by `field_broken`, a name by
 -- `field_holds`. What `signs_of` says of the bytes, permitted and blank, is what the form's text and its rule ask (`text_not`, `text_has`). That
--- the stretch ends in the file follows from `whole`; the other facts are by `search rules`.
--- the field is whole
+-- the stretch ends in the file follows from `whole`; the other facts are found by the check.
 use Rattle.std.proofs.Common.{◌≡◌, ◌+◌, true, leb, length, sym, refl, ap, ◌∙◌, arith}
 use native.Mathlib.Nat.{add-sub_cancel_left}
 use borrow.Author.Tests.{not-false, not-true}

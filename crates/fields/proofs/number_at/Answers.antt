@@ -1,5 +1,4 @@
 -- fields::number_at meets its contract: whole, then every digit.
--- the field is whole
 use Rattle.std.proofs.Common.{◌≡◌, ◌+◌, true, leb, length, sym, refl, ◌∙◌, arith}
 use native.Mathlib.Nat.{add-sub_cancel_left}
 use borrow.Author.Tests.{not-false, not-true}

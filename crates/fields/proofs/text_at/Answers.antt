@@ -1,5 +1,4 @@
 -- fields::text_at meets its contract: whole, then every sign.
--- the field is whole
 use Rattle.std.proofs.Common.{◌≡◌, ◌+◌, true, leb, length, sym, refl, ap, ◌∙◌, arith}
 use native.Mathlib.Nat.{add-sub_cancel_left}
 use borrow.Author.Tests.{not-false, not-true}

@@ -1,5 +1,4 @@
 -- finder::begins meets its contract: from one payment to the next, until one begins at the start.
--- a payment is still to come
 use Prim.Native.Nat.{◌-◌}
 use Rattle.diskette.specs.Answer.{answer, payments_of}
 use Rattle.layout.proofs.StepLaws.{Passing}

@@ -1,10 +1,7 @@
 -- finder::locate meets its contract: the check's refusal, 19, or where the text stands in the payment that begins there.
 -- There is no loop. Each return is a case of `locate_at`, by the law of SpotLaws for it, from the check's answer and from what `begins`,
--- `count_at` and `has_text` have told. What the callees require is by `search rules`, but for the count that `begins` asks for (`count_is`) and
+-- `count_at` and `has_text` have told. What the callees require is found by the check, but for the count that `begins` asks for (`count_is`) and
 -- the text of the longest payment that `text_place` asks for (`longest`). Neither addition wraps, since the text ends in the file (`ends`).
--- a payment begins at the start
--- the payment has the text
--- the text ends in the file
 use Prim.Native.Nat.{◌+◌, ◌≤◌}
 use native.Mathlib.Omega.{arith}
 use mathlib.Core.Path.{◌≡◌, sym, ap, subst, ◌∙◌}

@@ -1,5 +1,4 @@
 -- finder::start_of meets its contract: from one payment to the next, n times.
--- a payment is still to come
 use Prim.Native.Nat.{◌-◌, ◌≤◌}
 use Rattle.diskette.specs.Answer.{answer, payments_of}
 use Rattle.layout.proofs.StepLaws.{Passing}

@@ -1,5 +1,4 @@
 -- finder::text_place meets its contract: the three fields, and behind the mark of a part.
--- the part is one of fifteen
 use Prim.Native.Nat.{◌+◌, ◌-◌, ◌≤◌}
 use native.Mathlib.Omega.{arith}
 use mathlib.Core.Path.{sym, ap, subst, ◌∙◌}

@@ -1,10 +1,9 @@
 -- header::opening_at meets its contract: a walk through the fields A1 to A7.
 -- `past0` to `past6` are the `Walk` behind each field: the place that was come to, and that the answer owed is what the fields from there on
 -- give. A field with a content takes it on (`pass`, `past`, `past_ruled`), and the refusal of one without is the answer owed (`stop`,
--- `stop_ruled`); what the calls require and the cases of each answer are by `search rules`. The numbers pass as they are read; of A3 the walk
+-- `stop_ruled`); what the calls require and the cases of each answer are found by the check. The numbers pass as they are read; of A3 the walk
 -- has the letters and the code the kind, which `letters_are` and `kind_back` join, and the day of A7 is the one that its number names
 -- (`day_is`).
--- A3: the walk goes on with the letters of the kind that the code keeps
 use Rattle.form.specs.Place.{read_at}
 use Rattle.fields.specs.Answers.{letters_of, of_read}
 use Rattle.fields.proofs.AnswerLaws.{kinds_told, number_is, numbers_told, pass, passings_told}

@@ -1,9 +1,8 @@
 -- header::order_at meets its contract: a walk through the fields A8 to A12.
 -- `past0` to `past7` are the `Walk` behind each field: the place that was come to, and that the answer owed is what the fields from there on
 -- give. A field with a content takes it on (`pass`, `past`, `past_ruled`), and the refusal of one without is the answer owed (`stop`,
--- `stop_ruled`); what the calls require and the cases of each answer are by `search rules`. The numbers pass as they are read; of A11b the walk
+-- `stop_ruled`); what the calls require and the cases of each answer are found by the check. The numbers pass as they are read; of A11b the walk
 -- has a number or none and the code the day of execution, which `execution_is` joins, and the last way out puts it into the answer.
--- A11b, and the day of execution that it tells
 use Prim.Native.Nat.{ℕ}
 use mathlib.Core.Option.{Option}
 use mathlib.Core.Path.{◌≡◌}

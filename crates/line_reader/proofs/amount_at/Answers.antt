@@ -2,7 +2,7 @@
 -- There is no loop; each return is one answer. At the last all has gone well: what the leaves have read (`number_is`), the tests passed (`both`,
 -- `each`) and the sum within its limit make the amount, field by field (`returns-6`, by `kept_c10` to `kept_c12`). Each of the others has to
 -- deny every amount at p: one that stood there would be read, with the very numbers that the code has read, and keep the rule whose test failed
--- (`no_number`, `amount_tests`, `keeps_c12`). The rest is by `search rules`.
+-- (`no_number`, `amount_tests`, `keeps_c12`). The rest is found by the check.
 use mathlib.Core.Path.{sym, ◌∙◌}
 use Rattle.fields.proofs.AnswerLaws.{number_is}
 use Rattle.sums.proofs.Laws.{cents_within, cents_over}

@@ -1,5 +1,4 @@
 -- line_reader::is_sign meets its contract: its bits are the permitted signs, tried for every byte.
--- a byte as the code tests it
 use Prim.Native.Nat.{ℕ, ◌/◌, ◌^◌, ◌<◌}
 use native.Mathlib.Omega.{arith}
 use mathlib.Core.Path.{◌≡◌, refl}

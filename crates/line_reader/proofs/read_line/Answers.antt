@@ -3,7 +3,6 @@
 -- There is no loop; `seen` gathers what the three stretches have told, and of it the answer is made by `line_seen_lem` and `told_is`. At each no
 -- `told_no` asks that nobody could have seen all of the line: the stretch that the code did not see would be in it. For the parts it has to be
 -- known that they would stand where the code has looked for them, behind texts that stand at their place once (`names_once`).
--- all that is seen on the way to the answer
 use Prim.Native.Nat.{ℕ}
 use native.Mathlib.Omega.{arith}
 use mathlib.Core.Path.{subst}

@@ -2,7 +2,7 @@
 -- There is no loop; each return is one answer. At the last all has gone well: what the leaves have read (`number_is`), the tests passed (`both`,
 -- `each`) and the two sums within their limits make the receiver, field by field (`returns-10`, by `kept_c4` to `kept_c7b`). Each of the others
 -- has to deny every receiver at p: one that stood there would be read, with the very numbers that the code has read, and keep the rule whose
--- test failed (`no_number`, `receiver_tests`, `keeps_c4`, `keeps_c5`). The rest is by `search rules`.
+-- test failed (`no_number`, `receiver_tests`, `keeps_c4`, `keeps_c5`). The rest is found by the check.
 use mathlib.Core.Path.{sym, ◌∙◌}
 use Rattle.fields.specs.Answers.{letters_of}
 use Rattle.fields.proofs.AnswerLaws.{number_is}

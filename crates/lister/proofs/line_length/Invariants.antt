@@ -1,6 +1,4 @@
 -- lister::line_length meets its contract: field by field, each as long as it is without its trailing blanks.
--- the cell of field i
--- one field more is counted
 use Prim.Native.Nat.{◌-◌}
 use Rattle.lister.proofs.LineLaws.{Counting}
 use Rattle.lister.proofs.line_length.Given as goal

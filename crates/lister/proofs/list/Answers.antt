@@ -1,5 +1,4 @@
 -- lister::list meets its contract: the check's refusal, no room, or the whole listing.
--- the output has room
 use Prim.Native.Nat.{◌≤◌}
 use lib.ListN.{length}
 use Rattle.lister.proofs.ListingLaws.{listing_of}

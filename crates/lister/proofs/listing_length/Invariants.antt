@@ -1,5 +1,4 @@
 -- lister::listing_length meets its contract: the line of A, and then line by line, from one payment to the next.
--- the next payment has few parts
 use Prim.Native.Nat.{◌-◌}
 use Rattle.lister.proofs.LoopLaws.{Measuring}
 use Rattle.lister.proofs.listing_length.Given as goal

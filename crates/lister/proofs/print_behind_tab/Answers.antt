@@ -1,5 +1,4 @@
 -- lister::print_behind_tab meets its contract: a tab, and the bytes right behind it.
--- what the output holds behind the copying
 use native.Mathlib.Omega.{arith}
 use mathlib.Core.Path.{◌≡◌, ap, ◌∙◌}
 use mathlib.Core.List.{◌∷◌}

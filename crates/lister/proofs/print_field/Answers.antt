@@ -1,5 +1,4 @@
 -- lister::print_field meets its contract: what stands in the cell without its trailing blanks, behind a tab.
--- the cell lies in the file
 use Prim.Native.Nat.{suc, ◌+◌, ◌≤◌}
 use native.Mathlib.Omega.{arith}
 use mathlib.Core.Path.{◌≡◌, ap, ◌∙◌}

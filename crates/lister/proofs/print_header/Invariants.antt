@@ -1,5 +1,4 @@
 -- lister::print_header meets its contract: the letter, field by field what stands there without its trailing blanks, and the line's end.
--- behind the last field there is room for the line's end
 use Prim.Native.Nat.{◌-◌}
 use mathlib.Core.Bool.{true}
 use Rattle.listing.specs.Records.{fields_of_header_line}

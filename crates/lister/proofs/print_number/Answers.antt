@@ -1,6 +1,4 @@
 -- lister::print_number meets its contract: what stands in the cell, which has no trailing blanks, behind a tab.
--- the cell lies in the file
--- all bytes of the cell are printed
 use Prim.Native.Nat.{suc, ◌+◌, ◌-◌, ◌≤◌}
 use native.Mathlib.Omega.{arith}
 use mathlib.Core.Path.{◌≡◌, ap, ◌∙◌}

@@ -2,9 +2,7 @@
 -- There is no loop. The code looks up the cell of the mark alone; that the text stands right behind it, with the same widths in every part, is
 -- tried for all fifteen in PartLaws, which gives the bytes of both (`mark-is`, `words_are`) and that they lie in the file (`inside`). Behind the
 -- mark the output holds it (`marked`), there is room for the text because there is room for both, and `both_over` joins the two. The bounds of
--- the slices are `inside` or by `search rules`.
--- what is printed of the mark, and of the text
--- the call's start, seen from behind the mark
+-- the slices are `inside` or found by the check.
 use Prim.Native.Nat.{ℕ, ◌+◌, ◌-◌, ◌≤◌}
 use native.Mathlib.Omega.{arith}
 use mathlib.Core.Path.{◌≡◌, ap, ap₂, ◌∙◌}

@@ -4,12 +4,6 @@
 -- anew where it stands, and `ended` puts the three ways together (`going_on`), behind which the line's end makes the line whole. What the
 -- callees ask of the file is that the fields lie in it (`lies`) and, the one fact beyond places, that numbers and marks stand in full width
 -- (`first_full`, `mark_full`).
--- what the loop over the texts keeps, and then that over the parts
--- field i lies in the file
--- the payment has at most fifteen parts
--- behind the letter the numbers are next
--- behind the numbers the texts are next
--- behind the last part there is room for the line's end
 use Prim.Native.Nat.{◌-◌, ◌≤◌}
 use mathlib.Core.Bool.{false}
 use Rattle.listing.specs.Records.{fields_of_payment_line, fields_with}

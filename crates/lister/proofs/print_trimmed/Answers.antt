@@ -1,5 +1,4 @@
 -- lister::print_trimmed meets its contract: the field's bytes before its trailing blanks, behind a tab.
--- `trimmed` tells how many bytes are printed
 use Prim.Native.Nat.{suc, ◌+◌, ◌-◌}
 use native.Mathlib.Omega.{arith}
 use mathlib.Core.Path.{◌≡◌, ap, ◌∙◌}

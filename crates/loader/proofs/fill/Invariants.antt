@@ -2,10 +2,7 @@
 -- The loop keeps `Filling`: `row` payments are passed, the next stands at p, and in each column the rows still to come, written from `row` on,
 -- make what all rows make of the column as it was. `fill_more` is one turn of it; it rests on `pass_to` of the layout, by which C18 of a payment
 -- tells where the next begins. The three numbers can be read because the payment at p stands in the file with its digits (`row`), and the
--- columns can be written because each is as long as it was and has room for n rows (`has_room`); the rest is arithmetic or by `search rules`.
--- the point of a turn where the payment's numbers are read and its row is written
--- a payment is still to come
--- the numbers of the payment that comes next can be read
+-- columns can be written because each is as long as it was and has room for n rows (`has_room`); the rest is arithmetic or found by the check.
 use Prim.Native.Nat.{◌-◌}
 use Rattle.layout.proofs.PaymentLaws.{row}
 use Rattle.loader.proofs.FillLaws.{Filling}

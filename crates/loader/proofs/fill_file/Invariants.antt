@@ -2,14 +2,7 @@
 -- The loop keeps `FileFilling`: so many rows are written, the payments left stand at p and E behind them, and in each column the rows still to come
 -- make what all rows make of the column as it was. `file_fill_more` is one turn of it; it rests on `bytes_there` of the layout, by which C18 of a payment
 -- tells where the next begins. The three numbers can be read because the payment at p stands in the file with its digits (`row`), and the
--- columns can be written because each is as long as it was and has room for all rows of the file (`has_room`); the rest is arithmetic or by
--- `search rules`.
--- a turn: the letter is that of a payment
--- the point of a turn where the payment's numbers are read and its row is written
--- the numbers of the payment that comes next can be read
--- the row is one of those that the columns have room for
--- the bytes that the place goes on by are those of the payment
--- a row that a column has is no overflow
+-- columns can be written because each is as long as it was and has room for all rows of the file (`has_room`); the rest is arithmetic or found by the check.
 use Prim.Native.Nat.{◌-◌}
 use lib.ListN.{length}
 use Rattle.layout.proofs.PaymentLaws.{row}

@@ -2,8 +2,6 @@
 -- The loop keeps `MediumFilling`; `medium_more` is one turn of it, with what the fill of the file's rows ensures. The columns can be written because
 -- each is as long as it was and has room for all rows (`table_roomy`); the facts about the columns' sizes stand deep in what the proof is given, so
 -- they are handed over.
--- where the file's rows are written, and its row of the table is
--- what the fill gave back
 use Prim.Native.Nat.{◌-◌}
 use lib.ListN.{length}
 use Rattle.loader.proofs.MediumFillLaws.{MediumFilling}

@@ -1,5 +1,4 @@
 -- loader::known_number meets its contract: what was read so far is a number of as many digits.
--- the byte that is read next is a digit
 use Prim.Native.Nat.{◌-◌}
 use lib.ListN.{take, drop}
 use Rattle.fields.proofs.DigitLaws.{Spelt}

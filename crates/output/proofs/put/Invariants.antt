@@ -3,7 +3,6 @@
 -- own (`pad_text`), the second while they are blanks (`pad_blank`). The second loop is said of the output that it finds, so what the first has
 -- written is taken for what was there (`writing_on`), and at the end the two are put together (`writing_both`). All places lie in the output
 -- because there is room for w bytes, and the wide field has w (`pad_length`).
--- the first loop: n of the bytes to be written are the field's own
 use Prim.Native.Nat.{◌-◌, ◌≤◌, min}
 use mathlib.Core.Path.{◌≡◌}
 use lib.ListN.{length}

@@ -1,5 +1,4 @@
 -- parts::mark_in meets its contract: two digits, then the rule of the mark, then that of the room behind it.
--- the mark that was read, two digits
 use mathlib.Core.Path.{◌≡◌, sym, ◌∙◌}
 use borrow.Author.Tests.{lt-leb, le-leb, not-false, not-true}
 use Rattle.form.specs.Kind.{digits}

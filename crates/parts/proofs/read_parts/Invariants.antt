@@ -2,13 +2,7 @@
 -- A turn takes that walk past the closing blanks, the mark and the text of one part (`past-blanks`, `past-mark`, `past_words`). Mark and text
 -- are read in the slice that is the part, and are fields of the file (`mark_there`, `words_there`), where their refusals are named
 -- (`fails_there`); behind them the walk is over the parts still left, with the room that the mark leaves, since nothing is kept of a part
--- (`not_kept`). No place wraps, because a field that was read lies in the file (`field_inside`, `look_inside`); the other facts are by
--- `search rules`.
--- past the blanks before a part
--- the mark that was read in the part is the field of the file at the place of the part
--- past the mark of a part
--- the text that was read in the part is the field of the file behind the mark
--- past the text of a part
+-- (`not_kept`). No place wraps, because a field that was read lies in the file (`field_inside`, `look_inside`); the other facts are found by the check.
 use Prim.Native.Nat.{◌+◌, ◌-◌}
 use mathlib.Core.Path.{◌≡◌}
 use Rattle.form.specs.Place.{read_at}

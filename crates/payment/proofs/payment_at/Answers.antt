@@ -2,18 +2,7 @@
 -- `past0` to `past4` are the `Walk` behind each stretch: the place that was come to, and that the answer owed is what the rest of the payment
 -- from there on gives (`behind_receiver` to `behind_count`). A stretch that was read takes it on with what it says (`past_part`; `received`,
 -- `paid`, `named`), and the refusal of one that was not is the answer owed (`stopped_part`). At the end the parts complete the payment, and the
--- sums of the answers are those that the payment leads to (`sums_are`); what the calls require and the cases of each answer are by
--- `search rules`.
--- the form of a payment behind its length
--- the first stretch, C2 to C7b
--- the second stretch, C8 to C12
--- what is left of a payment behind the first stretch
--- the walk has come to place p, and m is left of the payment
--- from behind a stretch back to behind the one before it
--- from behind the first stretch back to the start
--- what each stretch says
--- the form of the parts, as many as C18 tells
--- the payment that the parts complete
+-- sums of the answers are those that the payment leads to (`sums_are`); what the calls require and the cases of each answer are found by the check.
 use Prim.Native.Nat.{ℕ}
 use mathlib.Core.List.{List}
 use mathlib.Core.Path.{◌∙◌}

@@ -2,7 +2,7 @@
 -- `past0` to `past4` are the `Walk` behind each field: the place that was come to, and that the answer owed is what the fields from there on
 -- give. A field with a content takes it on (`pass`, `past_ruled`), and the refusal of one without is the answer owed (`stop`, `stop_ruled`). The
 -- answer to C12 is that of the whole stretch, with the same sum of cents (`last_ruled`); what the calls require and the cases of each answer are
--- by `search rules`.
+-- found by the check.
 use mathlib.Core.Path.{◌∙◌, refl}
 use Rattle.form.specs.Place.{read_at}
 use Rattle.fields.specs.Answers.{of_read}

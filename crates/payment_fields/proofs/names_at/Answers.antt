@@ -2,7 +2,7 @@
 -- `past0` to `past4` are the `Walk` behind each field: the place that was come to, and that the answer owed is what the fields from there on
 -- give. Nothing is kept of these fields, so each answer gives a place or is handed on as it is: a field with a content takes the walk on
 -- (`pass`, `pass_ruled`), and the refusal of one without is the answer owed (`pass_stop`, `pass_ruled_stop`). The answer to C16 is that of the
--- whole stretch (`last`); what the calls require and the cases of each answer are by `search rules`.
+-- whole stretch (`last`); what the calls require and the cases of each answer are found by the check.
 use mathlib.Core.Path.{◌∙◌, refl}
 use Rattle.form.specs.Place.{read_at}
 use Rattle.fields.specs.Answers.{of_read, passings}

@@ -1,7 +1,7 @@
 -- payment_fields::receiver_at meets its contract: a walk through C2 to C7b.
 -- `past0` to `past7` are the `Walk` behind each field: the place that was come to, and that the answer owed is what the fields from there on
 -- give. A field with a content takes it on (`pass`, `past`, `past_ruled`), and the refusal of one without is the answer owed (`stop`,
--- `stop_ruled`); what the calls require and the cases of each answer are by `search rules`. C4 and C5 answer with the sum that each leads to:
+-- `stop_ruled`); what the calls require and the cases of each answer are found by the check. C4 and C5 answer with the sum that each leads to:
 -- `bank_codes_is` and `accounts_is` give the walk the number, and the last way out the two sums.
 use Rattle.form.specs.Place.{read_at}
 use Rattle.fields.specs.Answers.{letters_of, of_read}

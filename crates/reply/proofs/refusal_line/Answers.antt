@@ -1,6 +1,4 @@
 -- reply::refusal_line meets its contract: with room for the line its four pieces are written one behind the other, and none without.
--- once the digits have been counted
--- before the line's end is written
 use Prim.Native.Nat.{◌+◌, ◌≤◌}
 use native.Mathlib.Omega.{arith}
 use mathlib.Core.Path.{◌≡◌, ◌∙◌}

@@ -3,7 +3,7 @@
 -- give. Nothing is kept of these fields, so each answer gives a place or is handed on as it is: a field with a content takes the walk on
 -- (`pass`, `pass_ruled`), and the refusal of one without is the answer owed (`pass_stop`, `pass_ruled_stop`). The figures are held against what
 -- was counted in `figure_at`, whose answer has the field's rule in it; the answer to E9 is that of the whole record (`last`), and what the calls
--- require and the cases of each answer are by `search rules`.
+-- require and the cases of each answer are found by the check.
 use mathlib.Core.Path.{◌∙◌, refl}
 use Rattle.form.specs.Place.{read_at}
 use Rattle.diskette.specs.Fields.{end}

@@ -2,7 +2,7 @@
 -- The loop keeps `Forming`: field i stands at q, and the line has its form exactly where the fields from i on have theirs. In each turn field i
 -- either has not its form, and so the line has not (`form_not`), or it is passed (`form_more`), or it was the last (`form_last`); ahead of the
 -- loop the line is refused for its count or its letter (`other_count`, `other_letter`). The slice lies in the line by `stand_ends`, and what the
--- callees require is by `search rules`.
+-- callees require is found by the check.
 use Prim.Native.Nat.{◌-◌}
 use Rattle.composer.proofs.FormLaws.{Forming}
 use Rattle.composer.proofs.line.formed.Given as goal

@@ -1,5 +1,4 @@
 -- composer::line::rest_of_line meets its contract: the fields before the byte looked at, and those from there on, make up all fields.
--- the place looked at is inside
 use Prim.Native.Nat.{◌-◌, ◌≤◌}
 use lib.ListN.{length}
 use Rattle.composer.proofs.ByteLaws.{Resting}

@@ -1,5 +1,4 @@
 -- composer::record::put_end meets its contract: the figures are put into what E has of its own.
--- the point where E's letter is written, seen from the end
 use native.Mathlib.Omega.{arith}
 use mathlib.Core.Path.{ap, ◌∙◌}
 use lib.ListN.{length}

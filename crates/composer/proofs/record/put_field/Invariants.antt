@@ -1,5 +1,4 @@
 -- composer::record::put_field meets its contract: byte after byte up to the next tab, or to the line's end.
--- there is room for the byte
 use Prim.Native.Nat.{◌+◌, ◌-◌}
 use lib.ListN.{length}
 use Rattle.composer.proofs.PutLaws.{Copying}

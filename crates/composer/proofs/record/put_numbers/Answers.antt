@@ -1,8 +1,7 @@
 -- composer::record::put_numbers meets its contract: each number stands where those ahead of it end, and is put where it stands in the record.
 -- There is no loop: in `returns` each of the nine calls makes the record with one number more (`put_number` of PutLaws), from the record that
--- has what is its own to the one with all numbers. What the calls require, and that the slices lie in the line, is by `search rules`, since the
+-- has what is its own to the one with all numbers. What the calls require, and that the slices lie in the line, is found by the check, since the
 -- line is required to reach to its texts; for the last three numbers that fact is handed over.
--- the call's start, seen from where the sixth number is put
 use native.Mathlib.Omega.{arith}
 use lib.ListN.{take}
 use borrow.Author.Rules.{rules}

@@ -1,5 +1,4 @@
 -- line_reader::reaching::reach meets its contract: from i on the first z stands at the same place as from p on, as long as none was passed.
--- sixteen bytes stand from i on
 use Prim.Native.Nat.{◌+◌, ◌-◌}
 use mathlib.Core.Path.{◌≡◌}
 use lib.ListN.{length, drop}
