@@ -3,7 +3,7 @@
 -- composing once (`stepped`). Where it tells a payment, the payment's sums and bytes pass from what is owed to what is had (`told_more`,
 -- `reading_more`); where it is refused, its refusal is that of the whole (`reading_refused`). A payment is told only where fewer than 9,999,999
 -- came before it (`one_more`, by `payment_heard`): so the loop ends, and count and bytes stay small.
-use Prim.Native.Nat.{ℕ, ◌+◌, ◌-◌, ◌*◌, ◌≤◌, ◌<◌}
+use Prim.Native.Nat.{ℕ, ◌+◌, ◌*◌, ◌≤◌, ◌<◌}
 use native.Mathlib.Omega.{arith}
 use native.Mathlib.Nat.{add_assoc, add-zero}
 use mathlib.Core.Path.{◌≡◌, refl, sym, ap, ap₂, ◌∙◌, subst}

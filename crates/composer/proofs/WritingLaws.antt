@@ -15,7 +15,6 @@ use lib.ListN.{length, take, drop, length-append, length-drop, take-append-drop,
 use lib.Seq.{drop-drop, length-take-le, take_all, take-nil}
 use lib.Dec.{leb}
 use borrow.Rule.Slice.PartMut.{put_mid, Post-is}
-use Rattle.form.specs.Kind.{same}
 use Rattle.form.proofs.BoolLaws.{is_true}
 use Rattle.verdict.specs.Verdicts.{refusing}
 use Rattle.document.specs.Marks.{most_parts}

@@ -13,7 +13,7 @@ use mathlib.Core.List.{List}
 use lib.ListN.{replicate}
 use lib.Dec.{T, leb, ltb, eqb, leb→le, ltb→lt, le→leb, lt→ltb, eqb→eq, eqb_refl}
 use Rattle.form.specs.Kind.{digits, one_of}
-use Rattle.form.specs.Form.{Content, ◌>>=◌, value, Viable}
+use Rattle.form.specs.Form.{Content, value, Viable}
 use Rattle.form.proofs.BoolLaws.{and_both, or_other, or_right}
 use Rattle.form.proofs.RulesLaws.{◌▸◌, ok, viable_bind, viable_fork, then_viable}
 use Rattle.document.specs.Signs.{ascii}

@@ -10,7 +10,6 @@ use lib.ListN.{length}
 use lib.Dec.{T, leb}
 use borrow.Author.Tests.{le-leb, ne_eqb}
 use Rattle.form.specs.Kind.{every, one_of}
-use Rattle.form.proofs.NumberLaws.{one_within}
 use Rattle.verdict.specs.Lent.{filled}
 use Rattle.verdict.specs.Numbers.{of_check_medium, of_load_medium, from_c}
 use Rattle.document.specs.Medium.{all_payments}

@@ -5,7 +5,7 @@
 -- The bytes ahead of a refused field are then the whole values, and the beginning of one more that a single form gives (`ahead_legal`). The
 -- bytes through it begin none: in whatever begins with them the whole values are read, and then the same refusal is met, since it rests on no byte
 -- behind the field (`read_shared`).
-use Prim.Native.Nat.{ℕ, zero, suc, ◌+◌, ◌-◌, ◌≤◌, ◌<◌}
+use Prim.Native.Nat.{ℕ, zero, suc, ◌+◌, ◌≤◌, ◌<◌}
 use native.Mathlib.Omega.{arith}
 use mathlib.Core.Path.{◌≡◌, refl, sym, ap, ◌∙◌}
 use mathlib.Core.Logic.{◌≢◌}

@@ -10,7 +10,6 @@ use mathlib.Core.List.{List}
 use lib.ListN.{length}
 use lib.Dec.{T, eqb}
 use Rattle.form.specs.Kind.{choice, same, among}
-use Rattle.form.specs.Form.{value}
 use Rattle.form.specs.Reader.{has}
 use Rattle.form.specs.Place.{look_at, Read, done, read_at}
 use Rattle.form.proofs.BoolLaws.{and_both}

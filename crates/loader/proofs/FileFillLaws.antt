@@ -2,7 +2,7 @@
 -- The file stands at its place: payments behind A, and then E, so the letter behind a length tells whether another payment comes (`a-payment`,
 -- `the_end`). The loop keeps `FileFilling`: the payments left stand at p, the totals so far and theirs together are those of all (`together`), and in
 -- each column the rows still to come make of it what all rows make of the old one. With E reached, none is left, and all of it is told.
-use Prim.Native.Nat.{ℕ, suc, ◌+◌, ◌*◌, ◌≤◌, ◌<◌, min}
+use Prim.Native.Nat.{ℕ, ◌+◌, ◌*◌, ◌≤◌, ◌<◌, min}
 use native.Mathlib.Omega.{arith}
 use mathlib.Core.Path.{◌≡◌, refl, sym, ap, subst, ◌∙◌}
 use mathlib.Core.Logic.{◌≢◌}
@@ -36,7 +36,6 @@ use Rattle.sums.specs.Sums.{sums_of, totals_of}
 use Rattle.loader.specs.declared.FileRows.{FileRows}
 use Rattle.loader.specs.Columns.{bank_codes, accounts, cents, starts_from, starts_in}
 use Rattle.loader.specs.Filling.{Within, plus, payments_read, rows_read, Fillable}
-use Rattle.loader.proofs.FillLaws.{length_starts}
 use Rattle.loader.proofs.ColumnLaws.{ColumnFrom, column_from_start, column_from_more}
 
 pub same_sums : {a b : AccountSum} {c d : BankCodeSum} {e g : CentSum} → a ≡ b → c ≡ d → e ≡ g

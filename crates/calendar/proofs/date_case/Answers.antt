@@ -1,10 +1,8 @@
 -- calendar::date_case meets its contract: its three tests are those of the rule, in its order.
 -- Each of the four ways out is one law of `DateCaseLaws`: what a date is, by the numbers of the two days. The code's numbers are those of the rules.
-use mathlib.Core.Path.{◌≡◌, sym, ap, ◌∙◌}
-use mathlib.Core.Bool.{true}
+use mathlib.Core.Path.{sym, ap, ◌∙◌}
 use native.Mathlib.Omega.{arith}
 use borrow.Author.Tests.{not-false, not-true}
-use Rattle.document.specs.Calendar.{is_day}
 use Rattle.document.proofs.DateCaseLaws.{case_no_day, case_early, case_late, case_in_order}
 use Rattle.calendar.specs.Days.{day_of, case_from}
 use Rattle.calendar.proofs.Laws.{number_most}

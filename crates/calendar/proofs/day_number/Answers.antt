@@ -1,5 +1,4 @@
 -- calendar::day_number meets its contract: the sum is that of the rule, and the days counted are few.
-use Prim.Native.Nat.{◌+◌, ◌*◌, ◌≤◌}
 use native.Mathlib.Omega.{arith}
 use Rattle.document.specs.Calendar.{day_number}
 use Rattle.calendar.proofs.Laws.{years_most, months_most}

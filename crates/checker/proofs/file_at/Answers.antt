@@ -1,4 +1,3 @@
-use Prim.Native.Nat.{◌-◌}
 use native.Mathlib.Omega.{arith}
 use Rattle.fields.proofs.AnswerLaws.{number_is, numbers_told}
 use Rattle.fields.proofs.WalkLaws.{fails}

@@ -1,4 +1,4 @@
-use Rattle.std.proofs.Common.{◌-◌, sym, arith}
+use Rattle.std.proofs.Common.{sym, arith}
 use Rattle.fields.proofs.DigitLaws.{spelt_none, spelt_more, spelt_not, spelt_all, spelt_room}
 use Rattle.fields.proofs.digits_of.Goals as goal
 

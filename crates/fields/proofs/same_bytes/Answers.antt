@@ -1,4 +1,4 @@
-use Rattle.std.proofs.Common.{◌-◌, refl, arith}
+use Rattle.std.proofs.Common.{refl, arith}
 use Rattle.fields.proofs.StretchLaws.{flag_more, flag_end, same_more, same_end}
 use Rattle.fields.proofs.same_bytes.Goals as goal
 

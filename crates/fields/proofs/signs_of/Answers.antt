@@ -1,4 +1,4 @@
-use Rattle.std.proofs.Common.{◌+◌, ◌-◌, ◌&&◌, eqb, get_or, refl, ◌∙◌, arith}
+use Rattle.std.proofs.Common.{◌+◌, ◌&&◌, eqb, get_or, refl, ◌∙◌, arith}
 use Rattle.document.specs.Signs.{sign}
 use Rattle.fields.specs.Stretches.{signs_of}
 use Rattle.fields.proofs.StretchLaws.{flag_end, flag_more, halves_all, halves_end, halves_more}

@@ -1,4 +1,3 @@
-use Prim.Native.Nat.{◌-◌}
 use native.Mathlib.Omega.{arith}
 use Rattle.line_reader.proofs.SeenLaws.{part_is, part_none, followed_first, followed_more, followed_last, followed_none, followed_over}
 use Rattle.line_reader.proofs.TextLaws.{text_on, text_inside}

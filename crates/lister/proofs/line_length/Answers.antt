@@ -1,4 +1,3 @@
-use Prim.Native.Nat.{◌-◌}
 use native.Mathlib.Omega.{arith}
 use Rattle.layout.specs.Cells.{cells_of}
 use Rattle.lister.proofs.LineLaws.{Lying, lying, width_is, count_start, count_short, count_more, count_ends}

@@ -4,7 +4,6 @@
 -- tells where the next begins. The three numbers can be read because the payment at p stands in the file with its digits (`row`), and the
 -- columns can be written because each is as long as it was and has room for n rows (`has_room`); the rest is arithmetic or found by the check.
 use Prim.Native.Nat.{◌-◌}
-use Rattle.layout.proofs.PaymentLaws.{row}
 use Rattle.loader.proofs.FillLaws.{Filling}
 use Rattle.loader.proofs.fill.Given as goal
 

@@ -5,7 +5,6 @@
 -- columns can be written because each is as long as it was and has room for all rows of the file (`has_room`); the rest is arithmetic or found by the check.
 use Prim.Native.Nat.{◌-◌}
 use lib.ListN.{length}
-use Rattle.layout.proofs.PaymentLaws.{row}
 use Rattle.loader.proofs.FileFillLaws.{FileFilling}
 use Rattle.loader.proofs.fill_file.Given as goal
 

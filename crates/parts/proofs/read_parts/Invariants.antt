@@ -3,7 +3,7 @@
 -- are read in the slice that is the part, and are fields of the file (`mark_there`, `words_there`), where their refusals are named
 -- (`fails_there`); behind them the walk is over the parts still left, with the room that the mark leaves, since nothing is kept of a part
 -- (`not_kept`). No place wraps, because a field that was read lies in the file (`field_inside`, `look_inside`); the other facts are found by the check.
-use Prim.Native.Nat.{◌+◌, ◌-◌}
+use Prim.Native.Nat.{◌+◌}
 use mathlib.Core.Path.{◌≡◌}
 use Rattle.form.specs.Place.{read_at}
 use Rattle.diskette.specs.Fields.{parts}

@@ -1,5 +1,5 @@
 -- view::make meets its contract: the spot that is found lies within the file, so that the stretch up to its end is one of the file.
-use Rattle.std.proofs.Common.{◌≤◌, length, subst, sym, arith}
+use Rattle.std.proofs.Common.{subst, sym, arith}
 use Rattle.finder.proofs.SpotLaws.{Within, find_within}
 use Rattle.view.proofs.make.Goals as goal
 

@@ -1,4 +1,3 @@
-use Prim.Native.Nat.{◌-◌}
 use native.Mathlib.Omega.{arith}
 use Rattle.composer.proofs.ByteLaws.{count_first, count_inside, count_more, count_last}
 use Rattle.composer.proofs.line.count_fields.Goals as goal

@@ -1,4 +1,3 @@
-use Prim.Native.Nat.{◌-◌}
 use native.Mathlib.Omega.{arith}
 use Rattle.composer.proofs.FormLaws.{stand_more, place_first, place_here, place_more, place_none}
 use Rattle.composer.proofs.line.place_of.Goals as goal
