@@ -2,7 +2,7 @@
 #ifndef COPY_BINARY_H
 #define COPY_BINARY_H
 
-#include "output.h"
+#include "payments.h"
 
 write_rows write_copy_binary;
 

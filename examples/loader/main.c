@@ -73,6 +73,16 @@ static bool print_figures(const struct payments *payments) {
     return fflush(stdout) == 0 && !ferror(stdout);
 }
 
+// False where the output could not be written; errno then says why.
+static bool write_output(const struct request *request, const struct payments *payments) {
+    struct output output;
+    if (!begin_output(request->output, &output)) {
+        return false;
+    }
+    request->rows(output.stream, request->file_number, payments);
+    return end_output(&output);
+}
+
 // Answers the request with what the library told: nothing is written before it has accepted the
 // whole file.
 static int answer(const struct request *request, const struct payments *payments) {
@@ -81,7 +91,7 @@ static int answer(const struct request *request, const struct payments *payments
                 payments->place, reason(payments->number));
         return REFUSED;
     }
-    if (!write_output(request->output, request->rows, request->file_number, payments)) {
+    if (!write_output(request, payments)) {
         return failed(request->output);
     }
     return print_figures(payments) ? DONE : failed("standard output");

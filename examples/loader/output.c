@@ -51,44 +51,48 @@ static bool give_mode(int descriptor) {
     return fchmod(descriptor, 0666 & ~kept_back) == 0;
 }
 
-static bool write_stream(int descriptor, write_rows *rows, uint64_t file_number,
-                         const struct payments *payments) {
-    FILE *stream = give_mode(descriptor) ? fdopen(descriptor, "wb") : NULL;
-    if (stream == NULL) {
-        close(descriptor);
-        return false;
-    }
-    rows(stream, file_number, payments);
-    return finish(stream);
-}
-
-static bool write_and_rename(char *temporary, const char *name, write_rows *rows,
-                             uint64_t file_number, const struct payments *payments) {
+// The stream of a new file of that name; NULL where there is none, and then no such file either.
+static FILE *open_temporary(char *temporary) {
     int descriptor = mkstemp(temporary);
     if (descriptor < 0) {
-        return false;
+        return NULL;
     }
-    if (write_stream(descriptor, rows, file_number, payments) && rename(temporary, name) == 0) {
-        return true;
+    FILE *stream = give_mode(descriptor) ? fdopen(descriptor, "wb") : NULL;
+    if (stream == NULL) {
+        int reason = errno;
+        close(descriptor);
+        unlink(temporary);
+        errno = reason;
     }
-    int reason = errno;
-    unlink(temporary);
-    errno = reason;
-    return false;
+    return stream;
 }
 
-bool write_output(const char *name, write_rows *rows, uint64_t file_number,
-                  const struct payments *payments) {
+bool begin_output(const char *name, struct output *output) {
     if (!may_be_replaced(name)) {
         return false;
     }
-    char *temporary = temporary_name(name);
-    if (temporary == NULL) {
+    output->name = name;
+    output->temporary = temporary_name(name);
+    if (output->temporary == NULL) {
         return false;
     }
-    bool done = write_and_rename(temporary, name, rows, file_number, payments);
+    output->stream = open_temporary(output->temporary);
+    if (output->stream == NULL) {
+        int reason = errno;
+        free(output->temporary);
+        errno = reason;
+        return false;
+    }
+    return true;
+}
+
+bool end_output(struct output *output) {
+    bool done = finish(output->stream) && rename(output->temporary, output->name) == 0;
     int reason = errno;
-    free(temporary);
+    if (!done) {
+        unlink(output->temporary);
+    }
+    free(output->temporary);
     errno = reason;
     return done;
 }

@@ -3,18 +3,21 @@
 #define OUTPUT_H
 
 #include <stdbool.h>
-#include <stdint.h>
 #include <stdio.h>
 
-#include "payments.h"
+// An output that is being written, under a temporary name beside its own. Faults of writing stay in
+// the stream, where end_output sees them.
+struct output {
+    const char *name;
+    char *temporary;
+    FILE *stream;
+};
 
-// Writes the rows in the form of one store. Faults of writing stay in the stream, where
-// write_output sees them.
-typedef void write_rows(FILE *stream, uint64_t file_number, const struct payments *payments);
+// False where the output cannot be written; errno then says why, and there is nothing to end.
+bool begin_output(const char *name, struct output *output);
 
-// False where the output cannot be written; errno then says why, and an earlier output of that name
-// is as it was.
-bool write_output(const char *name, write_rows *rows, uint64_t file_number,
-                  const struct payments *payments);
+// False where the output could not be written; errno then says why, and an earlier output of that
+// name is as it was.
+bool end_output(struct output *output);
 
 #endif

@@ -5,6 +5,7 @@
 #include <stdbool.h>
 #include <stddef.h>
 #include <stdint.h>
+#include <stdio.h>
 
 #include "input.h"
 
@@ -26,6 +27,9 @@ struct payments {
 // False where there is no memory for the columns; errno then says so, and there is nothing to
 // release.
 bool load_payments(const struct input *file, struct payments *payments);
+
+// Writes the rows in the form of one store. Faults of writing stay in the stream.
+typedef void write_rows(FILE *stream, uint64_t file_number, const struct payments *payments);
 
 // Leaves errno as it is.
 void release_payments(struct payments *payments);

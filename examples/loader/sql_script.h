@@ -2,7 +2,7 @@
 #ifndef SQL_SCRIPT_H
 #define SQL_SCRIPT_H
 
-#include "output.h"
+#include "payments.h"
 
 write_rows write_sql_script;
 

@@ -2,7 +2,7 @@
 #ifndef COPY_SCRIPT_H
 #define COPY_SCRIPT_H
 
-#include "output.h"
+#include "rows.h"
 
 write_tables write_copy_script;
 

@@ -12,8 +12,8 @@
 #include "dtaus.h"
 #include "input.h"
 #include "medium.h"
+#include "medium_refusals.h"
 #include "output.h"
-#include "refusals.h"
 #include "rows.h"
 #include "sql_script.h"
 
@@ -80,17 +80,27 @@ static bool print_figures(const struct medium *medium) {
     return fflush(stdout) == 0 && !ferror(stdout);
 }
 
+// False where the output could not be written; errno then says why.
+static bool write_output(const struct request *request, const struct medium *medium) {
+    struct output output;
+    if (!begin_output(request->output, &output)) {
+        return false;
+    }
+    struct table tables[TABLES];
+    list_tables(request->medium_number, medium, tables);
+    request->form(output.stream, tables);
+    return end_output(&output);
+}
+
 // Answers the request with what the library told: nothing is written before it has accepted the
 // whole medium.
 static int answer(const struct request *request, const struct medium *medium) {
     if (medium->number != DTAUS_ACCEPTED) {
         fprintf(stderr, "%s: refused %u at byte %" PRIu64 ": %s\n", request->medium, medium->number,
-                medium->place, reason(medium->number));
+                medium->place, reason_of_medium(medium->number));
         return REFUSED;
     }
-    struct table tables[TABLES];
-    list_tables(request->medium_number, medium, tables);
-    if (!write_output(request->output, request->form, tables)) {
+    if (!write_output(request, medium)) {
         return failed(request->output);
     }
     return print_figures(medium) ? DONE : failed("standard output");

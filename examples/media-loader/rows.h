@@ -24,6 +24,9 @@ struct table {
 // The table of payments and the table of files. Their values stay those of the medium.
 void list_tables(uint64_t medium_number, const struct medium *medium, struct table tables[TABLES]);
 
+// Writes the tables in the form of one store. Faults of writing stay in the stream.
+typedef void write_tables(FILE *stream, const struct table tables[TABLES]);
+
 // Writes the numbers of a row, parted by this sign.
 void write_row(FILE *stream, const struct table *table, uint64_t row, char sign);
 
