@@ -3,7 +3,7 @@
 -- for one more (`spelt_room`). Each byte is looked at less the digit 0 in a byte's arithmetic, which is at most 9 for digits alone
 -- (`digit_left`, `no_digit`); a digit takes the number on by `number_more`. What the loop comes to is then what the form sees in a digit field
 -- and in one that may be blank.
-use Rattle.std.proofs.Common.{◌≡◌, ℕ, zero, suc, ◌+◌, ◌-◌, ◌*◌, ◌%◌, ◌^◌, ◌<◌, ◌≤◌, Bool, true, false, cond, ◌&&◌, T, leb, List, [], ◌∷◌, ◌++◌, length, get_or, take, refl, pow-suc, add-one, arith, le→leb, length-append, take_all, take-suc, leb-true}
+use Rattle.std.proofs.Common.{◌≡◌, ℕ, zero, suc, ◌+◌, ◌-◌, ◌*◌, ◌%◌, ◌^◌, ◌<◌, ◌≤◌, Bool, true, false, cond, ◌&&◌, T, Some, None, Ok, Err, leb, List, [], ◌∷◌, ◌++◌, length, get_or, take, refl, pow-suc, add-one, arith, le→leb, length-append, take_all, take-suc, leb-true}
 use native.Mathlib.Nat.{pow-zero, pow-le-pow_right}
 use mathlib.Core.Bool.{and-false}
 use mathlib.Core.Option.{some}
@@ -11,9 +11,9 @@ use borrow.Author.Tests.{lt-leb}
 use Rattle.form.specs.Kind.{digits, every, digit}
 use Rattle.form.specs.Reader.{not_digit, has, lacks, number, optional, judge}
 use Rattle.form.proofs.BoolLaws.{is_true, and_both, and_of}
-use Rattle.fields.specs.declared.Digits.TheVariants.{Are, Not}
-use Rattle.fields.specs.Stretches.{digits_of}
-use Rattle.fields.proofs.AnswerLaws.{zero_one}
+use Rattle.fields.specs.declared.Refusal.{Refusal}
+use Rattle.fields.specs.Answers.{refusal_of}
+use Rattle.fields.specs.Stretches.{digits_of, number_in}
 
 -- the number that digits and one more spell
 number_more : (bs : List ℕ) (b : ℕ) → number (bs ++ (b ∷ [])) ≡ number bs * 10 + (b - 0x30)
@@ -66,11 +66,11 @@ module _ (f : List ℕ) (i v d : ℕ) (s : Spelt f i v) (more : i < length f) (s
         below = rw (add-one i, pow-suc 10 i) (omega (arith, s.below));
       }
 
-  pub spelt_not : 9 < d → digits_of f ≡ Not
+  pub spelt_not : 9 < d → digits_of f ≡ None
   unfolding digits_of
   spelt_not h = rw (not_every digit f i more (no_digit (get_or f i 0) d small wraps h))
 
-pub spelt_all : (f : List ℕ) (i v : ℕ) → Spelt f i v → length f ≤ i → digits_of f ≡ Are v
+pub spelt_all : (f : List ℕ) (i v : ℕ) → Spelt f i v → length f ≤ i → digits_of f ≡ Some v
 unfolding digits_of
 spelt_all f i v s h =
     let e : take i f ≡ f = take_all i f h in
@@ -80,28 +80,21 @@ spelt_all f i v s h =
 pub spelt_room : (f : List ℕ) (i v : ℕ) → Spelt f i v → i < 17 → v < 10 ^ 16
 spelt_room f i v s h = let l : i ≤ 16 = omega arith in let t : 0 < 10 = omega arith in let p : 10 ^ i ≤ 10 ^ 16 = pow-le-pow_right t l in omega (arith, s.below)
 
--- whether all bytes are digits, and what they spell, by what the loop came to
-not_all : (b : Bool) (n : ℕ) → cond b (Are n) Not ≡ Not → b ≡ false
-not_all true n e = absurd (zero_one cc)
-not_all false n e = refl
+-- ---- what `number_in` tells of the bytes of a field
 
-all_are : (b : Bool) (n v : ℕ) → cond b (Are n) Not ≡ Are v → (b ≡ true) × (n ≡ v)
-all_are true n v e = (refl, cc)
-all_are false n v e = absurd (zero_one cc)
+no_ok : (b : Bool) (n p v : ℕ) → cond b (Ok n) (Err (refusal_of 3 p)) ≡ Ok v → (b ≡ true) × (n ≡ v)
+no_ok true n p v e = (refl, cc)
+no_ok false n p v e = absurd cc
 
-module _ (f : List ℕ) (w : ℕ) where
-  pub digits_not : digits_of f ≡ Not → judge (digits w) f ≡ lacks not_digit
-  unfolding digits_of judge
-  digits_not e = rw (not_all (every digit f) (number f) e)
+no_err : (b : Bool) (n p : ℕ) {r : Refusal} → cond b (Ok n) (Err (refusal_of 3 p)) ≡ Err r → (b ≡ false) × (r ≡ refusal_of 3 p)
+no_err true n p e = absurd cc
+no_err false n p e = (refl, cc)
 
-  pub digits_are : {v : ℕ} → digits_of f ≡ Are v → judge (digits w) f ≡ has v
-  unfolding digits_of judge
-  digits_are {v} e = let h = all_are (every digit f) (number f) v e in rw (h.0, h.1)
+module _ (f : List ℕ) (p w : ℕ) where
+  pub number_has : {v : ℕ} → number_in f p ≡ Ok v → (judge (digits w) f ≡ has v) × (optional false f ≡ has (some v))
+  unfolding judge
+  number_has {v} e = let h = no_ok (every digit f) (number f) p v e in (rw (h.0, h.1), rw (h.0, h.1))
 
-  pub maybe_not : digits_of f ≡ Not → optional false f ≡ lacks not_digit
-  unfolding digits_of
-  maybe_not e = rw (not_all (every digit f) (number f) e)
-
-  pub maybe_are : {v : ℕ} → digits_of f ≡ Are v → optional false f ≡ has (some v)
-  unfolding digits_of
-  maybe_are {v} e = let h = all_are (every digit f) (number f) v e in rw (h.0, h.1)
+  pub number_lacks : {r : Refusal} → number_in f p ≡ Err r → (judge (digits w) f ≡ lacks not_digit) × (optional false f ≡ lacks not_digit) × (r ≡ refusal_of 3 p)
+  unfolding judge
+  number_lacks e = let h = no_err (every digit f) (number f) p e in (rw (h.0), rw (h.0), h.1)

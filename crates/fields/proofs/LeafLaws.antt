@@ -2,9 +2,10 @@
 -- Each way out of a leaf has its law, by opening the reader at a place: not whole, the wrong bytes, the right ones (`leaf_short`, `leaf_wrong`,
 -- `leaf_right`), and with rules refused by its bytes, a rule broken, all kept (`field_fails`, `field_broken`, `field_holds`). Where the code
 -- tests that every byte is a blank or a zero, the form compares with a row of them: the two agree by induction over the bytes (`same_fill`).
-use Rattle.std.proofs.Common.{◌≡◌, ℕ, ◌+◌, ◌≤◌, Bool, true, false, not, eqb, leb, List, [], ◌∷◌, length, take, drop, replicate, sym, refl, ◌∙◌, arith, length-drop, length-take-le, eq-eqb, ne_eqb, eqb-true, leb-false, leb-true}
-use borrow.Author.Tests.{eqb-false, not-false}
-use Rattle.form.specs.Kind.{Kind, fixed, maybe, Value, width, every, same}
+use Rattle.std.proofs.Common.{◌≡◌, ℕ, ◌+◌, ◌≤◌, Bool, true, false, not, Ok, Err, eqb, leb, List, [], ◌∷◌, length, take, drop, replicate, sym, refl, ◌∙◌, arith, length-drop, length-take-le, eq-eqb, ne_eqb, eqb-true, leb-false, leb-true}
+use lib.Pointwise.{pointwise}
+use borrow.Author.Tests.{eqb-false}
+use Rattle.form.specs.Kind.{Kind, fixed, digits, maybe, Value, width, every, same}
 use Rattle.form.specs.Form.{Rule}
 use Rattle.form.specs.Reader.{Reason, short, not_fixed, not_sign, breaks, has, lacks, if_so, optional, judge, obey}
 use Rattle.form.specs.Place.{look_at, field_at}
@@ -12,8 +13,9 @@ use Rattle.document.specs.Signs.{sign}
 use Rattle.diskette.specs.Fields.{text27}
 use Rattle.verdict.specs.Verdicts.{number_of}
 use Rattle.fields.specs.declared.Refusal.{Refusal}
-use Rattle.fields.specs.Answers.{refusal_of, refusal_at, Telling, of_field}
-use Rattle.fields.proofs.WalkLaws.{Fails}
+use Rattle.fields.specs.Answers.{refusal_of, refusal_at, Reading, Telling, of_field, numbers}
+use Rattle.fields.proofs.WalkLaws.{Fails, fails}
+use Rattle.fields.proofs.AnswerLaws.{number_is}
 
 -- two comparisons that hold together
 pub leb_leb : (a b c d : ℕ) → (a ≤ b → c ≤ d) → (c ≤ d → a ≤ b) → leb a b ≡ leb c d
@@ -37,22 +39,18 @@ module _ (κ : Kind) (s : List ℕ) (p w : ℕ) (wide : width κ ≡ w) where
   is_whole e = rw (wide, e)
 
 -- the answers to a field that is not whole, has the wrong bytes, or the right ones
-module _ {R : Type 0} (κ : Kind) (t : Telling (Value κ) R) (s : List ℕ) (p w q : ℕ) (wide : width κ ≡ w) where
-  pub leaf_short : leb (p + w) (length s) ≡ false → t.refuses (refusal_of 1 p) ≡ of_field t p q (look_at κ s p)
+module _ {T : Type 0} (κ : Kind) (t : Telling (Value κ) T) (s : List ℕ) (p w q : ℕ) (wide : width κ ≡ w) where
+  pub leaf_short : leb (p + w) (length s) ≡ false → Err (refusal_of 1 p) ≡ of_field t p q (look_at κ s p)
   unfolding of_field number_of
   leaf_short e = rw (not_whole κ s p w wide e)
 
-  pub leaf_wrong : leb (p + w) (length s) ≡ true → (z : Reason) → judge κ (take w (drop p s)) ≡ lacks z → t.refuses (refusal_at z p) ≡ of_field t p q (look_at κ s p)
+  pub leaf_wrong : leb (p + w) (length s) ≡ true → (z : Reason) → judge κ (take w (drop p s)) ≡ lacks z → Err (refusal_at z p) ≡ of_field t p q (look_at κ s p)
   unfolding of_field
   leaf_wrong e z j = rw (is_whole κ s p w wide e, j)
 
-  pub leaf_right : leb (p + w) (length s) ≡ true → (v : Value κ) → judge κ (take w (drop p s)) ≡ has v → t.gives v q ≡ of_field t p q (look_at κ s p)
+  pub leaf_right : leb (p + w) (length s) ≡ true → (v : Value κ) → judge κ (take w (drop p s)) ≡ has v → Ok (t v q) ≡ of_field t p q (look_at κ s p)
   unfolding of_field
   leaf_right e v j = rw (is_whole κ s p w wide e, j)
-
--- a test said that w bytes from p on are whole
-pub whole_inside : (p w n : ℕ) {r : Bool} → r ≡ leb (p + w) n → not r ≡ false → p + w ≤ n
-whole_inside p w n {r} e f = leb-true (p + w) n (sym e ∙ not-false r f)
 
 -- the bytes of a whole field
 module _ (s : List ℕ) (p w : ℕ) (e : leb (p + w) (length s) ≡ true) where
@@ -93,18 +91,41 @@ module _ (s : List ℕ) (p : ℕ) (e : leb (p + 27) (length s) ≡ true) where
   unfolding judge
   text_has i = rw (is_whole text27 s p 27 refl e, i)
 
+-- the code's comparison of two stretches is the form's
+pub same_pointwise : (f g : List ℕ) → pointwise eqb f g ≡ same g f
+same_pointwise [] [] = refl
+same_pointwise [] (y ∷ ys) = refl
+same_pointwise (x ∷ xs) [] = refl
+same_pointwise (x ∷ xs) (y ∷ ys) = rw (eqb_turn x y, same_pointwise xs ys)
+
 -- ---- then the rules
 
-module _ {R : Type 0} (κ : Kind) (t : Telling (Value κ) R) (rs : Value κ → List Rule) (f : List ℕ) (p q : ℕ) where
+module _ {T : Type 0} (κ : Kind) (t : Telling (Value κ) T) (rs : Value κ → List Rule) (f : List ℕ) (p q : ℕ) where
   -- bytes that refuse a field refuse it whatever its rules
-  pub field_fails : {r : Refusal} → Fails (look_at κ f p) p r → t.refuses r ≡ of_field t p q (field_at κ rs f p)
+  pub field_fails : {r : Refusal} → Fails (look_at κ f p) p r → Err r ≡ of_field t p q (field_at κ rs f p)
   unfolding of_field
   field_fails x = rw (x.lack, x.refusal)
 
-  pub field_broken : {v : Value κ} {n : ℕ} → look_at κ f p ≡ has v → obey (rs v) v ≡ lacks (breaks n) → t.refuses (refusal_of n p) ≡ of_field t p q (field_at κ rs f p)
+  pub field_broken : {v : Value κ} {n : ℕ} → look_at κ f p ≡ has v → obey (rs v) v ≡ lacks (breaks n) → Err (refusal_of n p) ≡ of_field t p q (field_at κ rs f p)
   unfolding of_field number_of
   field_broken content broken = rw (content, broken)
 
-  pub field_holds : {v : Value κ} → look_at κ f p ≡ has v → obey (rs v) v ≡ has v → t.gives v q ≡ of_field t p q (field_at κ rs f p)
+  pub field_holds : {v : Value κ} → look_at κ f p ≡ has v → obey (rs v) v ≡ has v → Ok (t v q) ≡ of_field t p q (field_at κ rs f p)
   unfolding of_field
   field_holds content kept = rw (content, kept)
+
+-- ---- a number with rules, behind its digits
+
+module _ {T : Type 0} (w : ℕ) (t : Telling ℕ T) (rs : ℕ → List Rule) (f : List ℕ) (p n : ℕ) where
+  -- a number that is refused is refused whatever its rules
+  pub ruled_refused : {r : Refusal} → ◌≡◌ {A = Reading (ℕ × ℕ)} (Err r) (of_field numbers p n (look_at (digits w) f p)) → Err r ≡ of_field t p n (field_at (digits w) rs f p)
+  ruled_refused told = field_fails (digits w) t rs f p n (fails numbers p n (look_at (digits w) f p) told refl)
+
+  module _ {v q : ℕ} (told : ◌≡◌ {A = Reading (ℕ × ℕ)} (Ok (v, q)) (of_field numbers p n (look_at (digits w) f p))) where
+    pub ruled_broken : {i : ℕ} → obey (rs v) v ≡ lacks (breaks i) → Err (refusal_of i p) ≡ of_field t p n (field_at (digits w) rs f p)
+    ruled_broken broken = field_broken (digits w) t rs f p n (number_is p n (look_at (digits w) f p) told refl).0 broken
+
+    pub ruled_kept : obey (rs v) v ≡ has v → Ok (t v q) ≡ of_field t p n (field_at (digits w) rs f p)
+    ruled_kept kept =
+        let s = number_is p n (look_at (digits w) f p) told refl in
+        rw (s.1) (field_holds (digits w) t rs f p n s.0 kept)

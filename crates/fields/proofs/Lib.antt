@@ -5,3 +5,4 @@ pub mod StretchLaws
 pub mod SignLaws
 pub mod DigitLaws
 pub mod KindLaws
+pub mod StepLaws

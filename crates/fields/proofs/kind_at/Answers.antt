@@ -1,5 +1,6 @@
 -- fields::kind_at meets its contract: whole, then the two letters.
-use Rattle.std.proofs.Common.{◌≡◌, ◌+◌, true, leb, [], ◌∷◌, length, get_or, sym, refl, ◌∙◌, arith}
+use Rattle.std.proofs.Common.{◌+◌, [], ◌∷◌, get_or, refl, ◌∙◌}
+use Rattle.std.proofs.lemmas.Result.{err_from_is_err_and}
 use borrow.Author.Tests.{not-false, not-true}
 use Rattle.form.specs.Kind.{choice}
 use Rattle.form.specs.Reader.{not_fixed}
@@ -10,49 +11,30 @@ use Rattle.fields.proofs.KindLaws.{judge_kind, kind_letters, named, two_bytes}
 use Rattle.fields.proofs.LeafLaws.{ends_inside, leaf_right, leaf_short, leaf_wrong}
 use Rattle.fields.proofs.kind_at.Goals as goal
 
-pub returns-then-not-whole : goal.returns-then-not-whole
-returns-then-not-whole c =
+pub returns-in_err-letters : goal.returns-in_err-letters
+returns-in_err-letters c =
     let a = c.args in
-    rw c.refuse.ensures (leaf_short (choice 2 file_kinds) kinds a.s.now a.p 2 _ refl (sym c.whole.ensures ∙ not-true _ c.if-not-whole.true-raw))
-
-pub overflow_add-next : goal.overflow_add-next
-overflow_add-next c =
-    let whole : let a = c.args in leb (a.p + 2) (length a.s.now) ≡ true = sym c.whole.ensures ∙ not-false _ c.if-not-whole.false-raw in
-    let a = c.args in omega (arith, ends_inside a.s.now a.p 2 whole)
-
-pub bounds-s-p : goal.bounds-s-p
-bounds-s-p c =
-    let whole : let a = c.args in leb (a.p + 2) (length a.s.now) ≡ true = sym c.whole.ensures ∙ not-false _ c.if-not-whole.false-raw in
-    let a = c.args in omega (arith, ends_inside a.s.now a.p 2 whole)
-
-pub bounds-s-next : goal.bounds-s-next
-bounds-s-next c =
-    let whole : let a = c.args in leb (a.p + 2) (length a.s.now) ≡ true = sym c.whole.ensures ∙ not-false _ c.if-not-whole.false-raw in
-    let a = c.args in omega (arith, ends_inside a.s.now a.p 2 whole)
+    let p = err_from_is_err_and c.from_residual.result c.from_residual.ensures.1 in
+    rw (p.1, p.2, c.in_err-letters.ensures.1) (leaf_short (choice 2 file_kinds) kinds a.s.now a.p 2 _ refl c.in_err-letters.ensures.0)
 
 pub returns-then-not-named : goal.returns-then-not-named
 unfolding number_of
 returns-then-not-named c =
-    let whole : let a = c.args in leb (a.p + 2) (length a.s.now) ≡ true = sym c.whole.ensures ∙ not-false _ c.if-not-whole.false-raw in
     let a = c.args in
-    let h = whole in
     let x = get_or a.s.now a.p 0 in
     let y = get_or a.s.now (a.p + 1) 0 in
-    let judged = two_bytes a.s.now a.p (ends_inside a.s.now a.p 2 h) in
-    rw c.refuse-then-not-named.ensures
-    (leaf_wrong (choice 2 file_kinds) kinds a.s.now a.p 2 _ refl h not_fixed (rw (judged, judge_kind x y, not-true (named x y) c.if-not-named.true-raw)))
-
-pub overflow_add-result : goal.overflow_add-result
-overflow_add-result c =
-    let whole : let a = c.args in leb (a.p + 2) (length a.s.now) ≡ true = sym c.whole.ensures ∙ not-false _ c.if-not-whole.false-raw in
-    let a = c.args in omega (arith, ends_inside a.s.now a.p 2 whole)
+    let e = c.in_ok-letters.ensures in
+    let two = two_bytes a.s.now a.p (ends_inside a.s.now a.p 2 e.0) in
+    let f = e.1 ∙ two in
+    rw c.refuse.ensures
+    (leaf_wrong (choice 2 file_kinds) kinds a.s.now a.p 2 _ refl e.0 not_fixed (rw (two, judge_kind x y, not-true (named x y) (rw f at c.if-not-named.true-raw))))
 
 pub returns : goal.returns
 returns c =
-    let whole : let a = c.args in leb (a.p + 2) (length a.s.now) ≡ true = sym c.whole.ensures ∙ not-false _ c.if-not-whole.false-raw in
     let a = c.args in
-    let h = whole in
     let x = get_or a.s.now a.p 0 in
     let y = get_or a.s.now (a.p + 1) 0 in
-    let judged = two_bytes a.s.now a.p (ends_inside a.s.now a.p 2 h) in
-    rw (kind_letters x y) (leaf_right (choice 2 file_kinds) kinds a.s.now a.p 2 _ refl h (x ∷ y ∷ []) (rw (judged, judge_kind x y, not-false (named x y) c.if-not-named.false-raw)))
+    let e = c.in_ok-letters.ensures in
+    let two = two_bytes a.s.now a.p (ends_inside a.s.now a.p 2 e.0) in
+    let f = e.1 ∙ two in
+    rw (f, kind_letters x y) (leaf_right (choice 2 file_kinds) kinds a.s.now a.p 2 _ refl e.0 (x ∷ y ∷ []) (rw (two, judge_kind x y, not-false (named x y) (rw f at c.if-not-named.false-raw))))
