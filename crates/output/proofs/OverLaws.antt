@@ -8,6 +8,7 @@ use mathlib.Core.List.{List, [], ◌∷◌, ◌++◌, append_assoc, append-nil}
 use lib.ListN.{length, take, drop, get_or, set, length-append, take-append-drop, drop_of_length-le}
 use lib.Seq.{take-suc, append_snoc, set_at, take-append-add, drop-append-add, drop-drop, take_at, drop_at, length-take-le, sets, length-sets, sets-eq}
 use lib.Dec.{leb}
+use borrow.Rule.Slice.PartMut.{put_mid}
 use borrow.Author.Tests.{le-leb, not-true}
 use Rattle.output.specs.Writing.{over, over_if_room}
 
@@ -48,6 +49,12 @@ over_here x bs old e = over_first bs (x ++ old) ∙ rw (drop_at x old (length bs
 pub over_behind : (p : ℕ) (a bs old : List ℕ) → over (length a + p) bs (a ++ old) ≡ a ++ over p bs old
 over_behind p a bs old =
     rw (take-append-add a old p, add_assoc (length a) p (length bs), drop-append-add a old (p + length bs)) (append_assoc a (take p old) _)
+
+-- a part of the output, from p up to q, that holds other bytes now
+pub part_over : (p q : ℕ) (bs old : List ℕ) → q ≡ p + length bs → put_mid p (q - p) old bs ≡ over p bs old
+part_over p q bs old e =
+    let f : p + (q - p) ≡ p + length bs = omega arith in
+    ap (λ (l : List ℕ). take p old ++ (bs ++ l)) (drop-drop (q - p) p old ∙ ap (λ (n : ℕ). drop n old) f)
 
 -- ---- one after another
 
