@@ -75,5 +75,5 @@ spelling_end {p = p} {w = w} {i = i} s h =
     let k : s.count ≡ w = omega arith in
     s.holds ∙ rw (e, k)
 
--- the three steps
+-- what a loop over the places needs: before it, at each digit, behind it
 pub ruleset digit_by_digit = (spelling_start, spelling_more, spelling_end)

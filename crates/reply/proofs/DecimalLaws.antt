@@ -70,13 +70,14 @@ decimal_reads v h = number_numeral (digits_within 20 v) v (digits_suffice 20 v h
 
 -- ---- counted by dividing
 
--- one place more than suffices counts no digit more
+-- one place more than suffice counts no digit more
 one_place_more : (n v : ℕ) → v < 10 ^ suc n → digits_within (suc (suc n)) v ≡ digits_within (suc n) v
 one_place_more zero v h = one_digit 1 v h ∙ sym (one_digit 0 v h)
 one_place_more (suc n) v h =
     ⊎_elim (λ l. one_digit (suc (suc n)) v l ∙ sym (one_digit (suc n) v l))
     (λ l. another_digit (suc (suc n)) v l ∙ ap suc (one_place_more n (v / 10) ((tenth (suc n) v).1 h)) ∙ sym (another_digit (suc n) v l)) (few_or_more v)
 
+-- of 64 bits: the last digit, one digit ahead of those of the tenth, and never many
 pub last_one : (v : ℕ) → v < 10 → digits_within 20 v ≡ 1
 last_one = one_digit 19
 

@@ -125,4 +125,5 @@ module _ (n p : ℕ) (old : List ℕ) where
               ∙ ap (λ bs. filled bs old) e,
         )
 
+-- what the function needs that writes the line: no number has many digits, how long the line is, and both ways out
 pub ruleset piece_by_piece = (few, line_length, line_not_written, line_written)
