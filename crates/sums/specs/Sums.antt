@@ -1,26 +1,23 @@
 -- What adding to a total answers: the new total, or that it has too many digits.
-use Rattle.std.specs.Prelude.{ℕ, ◌+◌, cond, ltb, leb}
+use Rattle.std.specs.Prelude.{ℕ, ◌+◌, cond, ltb, leb, Option, Some, None}
 use Rattle.document.specs.Rules.{most_cents, sum_limit}
 use Rattle.document.specs.Values.{Totals}
-use Rattle.sums.specs.declared.AccountsAdded.{AccountsAdded}
-use Rattle.sums.specs.declared.AccountsAdded.TheVariants as accounts
-use Rattle.sums.specs.declared.BankCodesAdded.{BankCodesAdded}
-use Rattle.sums.specs.declared.BankCodesAdded.TheVariants as bank_codes
-use Rattle.sums.specs.declared.CentsAdded.{CentsAdded}
-use Rattle.sums.specs.declared.CentsAdded.TheVariants as cents
+use Rattle.sums.specs.declared.AccountSum.{AccountSum}
+use Rattle.sums.specs.declared.BankCodeSum.{BankCodeSum}
+use Rattle.sums.specs.declared.CentSum.{CentSum}
 use Rattle.sums.specs.declared.Sums.{Sums}
 
 -- the account number v, added to the sum of those before
-unfoldable pub accounts_added : ℕ → ℕ → AccountsAdded
-accounts_added sum v = cond (ltb (sum + v) sum_limit) (accounts.Within (record { 0 = sum + v })) accounts.Over
+unfoldable pub accounts_added : ℕ → ℕ → Option AccountSum
+accounts_added sum v = cond (ltb (sum + v) sum_limit) (Some (record { 0 = sum + v })) None
 
 -- the bank code v, added to the sum of those before
-unfoldable pub bank_codes_added : ℕ → ℕ → BankCodesAdded
-bank_codes_added sum v = cond (ltb (sum + v) sum_limit) (bank_codes.Within (record { 0 = sum + v })) bank_codes.Over
+unfoldable pub bank_codes_added : ℕ → ℕ → Option BankCodeSum
+bank_codes_added sum v = cond (ltb (sum + v) sum_limit) (Some (record { 0 = sum + v })) None
 
 -- the cents v, added to the sum of those before
-unfoldable pub cents_added : ℕ → ℕ → CentsAdded
-cents_added sum v = cond (leb (sum + v) most_cents) (cents.Within (record { 0 = sum + v })) cents.Over
+unfoldable pub cents_added : ℕ → ℕ → Option CentSum
+cents_added sum v = cond (leb (sum + v) most_cents) (Some (record { 0 = sum + v })) None
 
 -- count and sums of the code as the rules' totals
 abbrev pub totals_of : ℕ → Sums → Totals

@@ -32,71 +32,35 @@ pub const NO_SUMS: Sums = Sums {
     cents: CentSum(0),
 };
 
-// The sum of account numbers with one more, or that it has too many digits.
-#[derive(Clone, Copy)]
-pub enum AccountsAdded {
-    Over,
-    Within(AccountSum),
-}
-
-// The sum of bank codes with one more, or that it has too many digits.
-#[derive(Clone, Copy)]
-pub enum BankCodesAdded {
-    Over,
-    Within(BankCodeSum),
-}
-
-// The sum of cents with one amount more, or that it has too many digits.
-#[derive(Clone, Copy)]
-pub enum CentsAdded {
-    Over,
-    Within(CentSum),
-}
-
 impl AccountSum {
-    // The sum with the account number v added.
-    pub fn add(self, v: u64) -> AccountsAdded
+    // The sum with the account number v added; none where it would have more than 17 digits.
+    #[tactic(auto, unfolding(crate::specs::Sums::accounts_added))]
+    pub fn add(self, v: u64) -> Option<AccountSum>
         ensures { result ≡ accounts_added self.0 v }
     {
-        let sum = self.0;
-        if v > MOST_OF_17 {
-            return AccountsAdded::Over;
-        }
-        if sum > MOST_OF_17 - v {
-            return AccountsAdded::Over;
-        }
-        AccountsAdded::Within(AccountSum(sum + v))
+        let sum = self.0.checked_add(v)?;
+        (sum <= MOST_OF_17).then_some(AccountSum(sum))
     }
 }
 
 impl BankCodeSum {
-    // The sum with the bank code v added.
-    pub fn add(self, v: u64) -> BankCodesAdded
+    // The sum with the bank code v added; none where it would have more than 17 digits.
+    #[tactic(auto, unfolding(crate::specs::Sums::bank_codes_added))]
+    pub fn add(self, v: u64) -> Option<BankCodeSum>
         ensures { result ≡ bank_codes_added self.0 v }
     {
-        let sum = self.0;
-        if v > MOST_OF_17 {
-            return BankCodesAdded::Over;
-        }
-        if sum > MOST_OF_17 - v {
-            return BankCodesAdded::Over;
-        }
-        BankCodesAdded::Within(BankCodeSum(sum + v))
+        let sum = self.0.checked_add(v)?;
+        (sum <= MOST_OF_17).then_some(BankCodeSum(sum))
     }
 }
 
 impl CentSum {
-    // The sum with the cents v added.
-    pub fn add(self, v: u64) -> CentsAdded
+    // The sum with the cents v added; none where it would have more than 13 digits.
+    #[tactic(auto, unfolding(crate::specs::Sums::cents_added))]
+    pub fn add(self, v: u64) -> Option<CentSum>
         ensures { result ≡ cents_added self.0 v }
     {
-        let sum = self.0;
-        if v > MOST_CENTS {
-            return CentsAdded::Over;
-        }
-        if sum > MOST_CENTS - v {
-            return CentsAdded::Over;
-        }
-        CentsAdded::Within(CentSum(sum + v))
+        let sum = self.0.checked_add(v)?;
+        (sum <= MOST_CENTS).then_some(CentSum(sum))
     }
 }
