@@ -12,6 +12,7 @@ ghost use Rattle.line_reader.specs.Reaching.{reach};
 ghost use Rattle.composer.specs.Telling.{FormedLine, behind_letter};
 ghost use Rattle.composer.specs.Writing.{Layable, Writable};
 
+use crate::line::field_end;
 use fields::fixed;
 use layout::{at, line, width};
 use sums::Sums;
@@ -69,16 +70,9 @@ fn put_field(x: &[u8], q: usize, out: &mut [u8], p: usize) -> usize
     ensures place { result ≡ q + reach tab (drop q x.now) }
     ensures out { out.new ≡ over p (take (result - q) (drop q x.now)) out.old }
 {
-    let mut i = 0;
-    while q + i < x.len() {
-        let b = x[q + i];
-        if b == line::TAB {
-            break;
-        }
-        out[p + i] = b;
-        i += 1;
-    }
-    q + i
+    let e = field_end(x, q);
+    output::copy(out, p, &x[q..e]);
+    e
 }
 
 // The fields of a line of A, or of a C of k parts, each where it stands in the record: from field `first` on, which stands at `start`, up to
@@ -88,15 +82,9 @@ fn put_fields(head: bool, k: usize, n: usize, x: &[u8], first: usize, start: usi
     ensures { out.new ≡ lay (record_of head k) (behind_letter (split tab x.now)) }
 {
     let mut q = start;
-    let mut i = first;
-    loop {
+    for i in first..n {
         let c = layout::cell_at(head, i);
-        let e = put_field(x, q, out, c.place);
-        i += 1;
-        if i == n {
-            return;
-        }
-        q = e + 1;
+        q = put_field(x, q, out, c.place) + 1;
     }
 }
 

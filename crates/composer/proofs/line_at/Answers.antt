@@ -9,9 +9,8 @@ use Rattle.composer.specs.Telling.{laid_why}
 use Rattle.composer.proofs.StepLaws.{line_inside, line_short, seen_told}
 use Rattle.composer.proofs.line_at.Goals as goal
 
-pub returns-in-Is : goal.returns-in-Is
-returns-in-Is c =
-    seen_told _ _ _ _ _ c.requires.0 (sym c.in-Is.is ∙ c.read_line-seen.ensures)
+pub returns-in-Some : goal.returns-in-Some
+returns-in-Some c = seen_told _ _ _ _ _ _ c.requires.0 c.in-Some.ensures
 
 pub slice_bounds-payment_line-end : goal.slice_bounds-payment_line-end
 slice_bounds-payment_line-end c = (line_inside _ _ _ c.requires.0 c.reach-e.ensures).1
@@ -45,7 +44,7 @@ returns c = (
   record {
     ends = c.reach-e.ensures;
     more = c.if-e-l.false;
-    told = sym c.in-Is-c.is ∙ c.payment_line-c.ensures;
+    told = sym c.in-Is.is ∙ c.payment_line-c.ensures;
   },
   refl,
 )
