@@ -2,7 +2,7 @@
 -- The loop keeps `Layable`: the line has its form, field i stands at q, and the record has what is its own and the fields before i. Field i is
 -- no wider than its cell, because the line has its form, so there is room for it and it makes the record with one field more (`one_more`, by
 -- `lay_over`); the walk goes on behind its tab (`put_more`). The numbers of a payment stand at fixed places of the line and are put without that
--- walk (`put_number`).
+-- walk (`put_number`). Copying one field byte by byte keeps `Copying`: the bytes of it before i are in the record, and no tab was among them.
 use Prim.Native.Nat.{ℕ, suc, ◌+◌, ◌-◌, ◌≤◌, ◌<◌}
 use native.Mathlib.Numerals.{add-one}
 use native.Mathlib.Omega.{arith}
@@ -10,18 +10,20 @@ use mathlib.Core.Path.{◌≡◌, refl, sym, ap, ◌∙◌}
 use mathlib.Core.Bool.{Bool, false}
 use mathlib.Core.List.{List, []}
 use mathlib.Core.Option.{some}
-use lib.ListN.{length, take, drop, get_elem?, length-drop}
-use lib.Seq.{take_all, length-take-le}
+use lib.ListN.{length, take, drop, get_or, set, get_elem?, length-drop}
+use lib.Seq.{take_all, length-take-le, get_or-take, get_or-drop}
 use Rattle.form.specs.Kind.{width}
 use Rattle.document.specs.Marks.{most_parts}
 use Rattle.listing.specs.Lines.{tab}
 use Rattle.listing.specs.Records.{record_c, numbers_of_payment_line, fields_with, pad, lay, Cell, cells}
 use Rattle.listing.proofs.RecordLaws.{lay_length}
 use Rattle.layout.specs.declared.Cell.{Cell as CodeCell}
+use Rattle.output.proofs.WritingLaws.{Writing, writing_start, writing_more, writing_end}
 use Rattle.output.specs.Writing.{over, over_if_room}
 use Rattle.layout.specs.Lines as line
 use Rattle.layout.specs.Cells.{record_of, cell_of, cells_of, cell_at}
 use Rattle.line_reader.specs.Reaching.{reach}
+use Rattle.line_reader.proofs.ReachLaws.{reach_le, reach_on}
 use Rattle.layout.proofs.CellLaws.{field_of_c, fields_of_c_lem, fields_first}
 use Rattle.composer.specs.Telling.{FormedLine}
 use Rattle.composer.specs.Writing.{Layable}
@@ -131,3 +133,53 @@ module _ {k : ℕ} {x old : List ℕ} (h : Layable false k (fields_with k) x old
       ∙ ap (λ (y : CodeCell). over_if_room y.place (pad y.width t) out) d
       ∙ ap (over_if_room b.0.place (pad (width b.0.kind) t)) o
       ∙ lay_step (record_c k) (fields_of x) i b.0 t here at
+
+-- ---- a field byte by byte
+
+-- the bytes of the field at q up to i are in the record from p on
+pub record Copying (x old : List ℕ) (q p : ℕ) (out : List ℕ) (i : ℕ) : Type 0 where
+  pub on : q ≤ i
+  pub inside : i ≤ length x
+  pub ahead : q + reach tab (drop q x) ≡ i + reach tab (drop i x)
+  pub written : Writing old p (take (reach tab (drop q x)) (drop q x)) out (i - q)
+
+whole_field : (x : List ℕ) (q : ℕ) → length (take (reach tab (drop q x)) (drop q x)) ≡ reach tab (drop q x)
+whole_field x q = length-take-le (reach tab (drop q x)) (drop q x) (reach_le tab (drop q x))
+
+pub copy_start : (x : List ℕ) (q : ℕ) (old : List ℕ) (p : ℕ) → q ≤ length x → p + reach tab (drop q x) ≤ length old → Copying x old q p old q
+copy_start x q old p h r =
+    let e : q - q ≡ 0 = omega arith in
+    record {
+      on = omega arith;
+      inside = h;
+      ahead = refl;
+      written = rw e (writing_start old p (take (reach tab (drop q x)) (drop q x)) (omega (arith, whole_field x q)));
+    }
+
+module _ {x old out : List ℕ} {q p i : ℕ} (w : Copying x old q p out i) where
+  -- there is room for one byte more
+  pub copy_room : i < length x → (get_or x i 0 ≡ tab → ⊥) → p + (i - q) < length out
+  copy_room h n = omega (arith, reach_on tab x i h n, whole_field x q, w.on, w.ahead, w.written.room, w.written.long)
+
+  pub copy_more : i < length x → (get_or x i 0 ≡ tab → ⊥) → Copying x old q p (set out (p + (i - q)) (get_or x i 0)) (i + 1)
+  copy_more h n =
+      let on = w.on in
+      let next : i + 1 ≡ suc i = omega arith in
+      let long = whole_field x q in
+      let ahead : q + reach tab (drop q x) ≡ suc i + reach tab (drop (suc i) x) = omega (arith, reach_on tab x i h n, w.ahead) in
+      let k : i + 1 - q ≡ i - q + 1 = omega arith in
+      let there : q + (i - q) ≡ i = omega arith in
+      let b = get_or-take (reach tab (drop q x)) (drop q x) (i - q) 0 (omega arith) ∙ get_or-drop q x (i - q) 0 ∙ ap (λ m. get_or x m 0) there in
+      record {
+        on = omega arith;
+        inside = omega arith;
+        ahead = rw next ahead;
+        written = rw k (writing_more (p + (i - q)) (get_or x i 0) w.written (omega arith) refl (sym b));
+      }
+
+  pub copy_end : reach tab (drop i x) ≡ 0 → (i ≡ q + reach tab (drop q x)) × (out ≡ over p (take (i - q) (drop q x)) old)
+  copy_end z =
+      let on = w.on in
+      let n : reach tab (drop q x) ≡ i - q = omega (arith, w.ahead) in
+      let long = whole_field x q in
+      (omega (arith, w.ahead), rw n at (writing_end w.written (omega arith)))

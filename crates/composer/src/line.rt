@@ -15,7 +15,7 @@ use line_reader::reaching;
 pub(crate) const AHEAD_OF_TEXTS: usize = 1 + layout::line::NUMBERS_OF_C;
 
 // Where the field at q ends: at the next tab, or where the line does. Fields are short, so the tab is near.
-pub(crate) fn field_end(x: &[u8], q: usize) -> usize
+fn field_end(x: &[u8], q: usize) -> usize
     ensures { result ≡ q + reach tab (drop q x.now) }
 {
     reaching::reach_near(x, q, layout::line::TAB)

@@ -12,7 +12,6 @@ ghost use Rattle.line_reader.specs.Reaching.{reach};
 ghost use Rattle.composer.specs.Telling.{FormedLine, behind_letter};
 ghost use Rattle.composer.specs.Writing.{Layable, Writable};
 
-use crate::line::field_end;
 use fields::fixed;
 use layout::{at, line, width};
 use sums::Sums;
@@ -64,15 +63,21 @@ fn put_numbers(k: usize, x: &[u8], out: &mut [u8])
     output::put(out, at::C12, &x[line::C12..line::C12_END], width::C12);
 }
 
-// The field at q of the line, into the record from p on, where it is blank; tells where the field ends.
+// The field at q of the line, into the record from p on, where it is blank; tells where the field ends. It is short, so looking for its end and
+// copying it are one loop: two took a fifth more of a whole call.
 fn put_field(x: &[u8], q: usize, out: &mut [u8], p: usize) -> usize
     requires { (q ≤ length x.now) × (p + reach tab (drop q x.now) ≤ length out.old) }
     ensures place { result ≡ q + reach tab (drop q x.now) }
     ensures out { out.new ≡ over p (take (result - q) (drop q x.now)) out.old }
 {
-    let e = field_end(x, q);
-    output::copy(out, p, &x[q..e]);
-    e
+    for i in q..x.len() {
+        let b = x[i];
+        if b == line::TAB {
+            return i;
+        }
+        out[p + (i - q)] = b;
+    }
+    x.len()
 }
 
 // The fields of a line of A, or of a C of k parts, each where it stands in the record: from field `first` on, which stands at `start`, up to

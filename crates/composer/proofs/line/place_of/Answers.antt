@@ -1,5 +1,5 @@
 use native.Mathlib.Omega.{arith}
-use Rattle.composer.proofs.FormLaws.{stand_ends, place_first, place_here, place_more, place_none}
+use Rattle.composer.proofs.FormLaws.{stand_ends, place_first, place_here, place_more}
 use Rattle.composer.proofs.line.place_of.Goals as goal
 
 pub loop-i-init : goal.loop-i-init
@@ -15,6 +15,3 @@ overflow_add-q c =
 pub loop-i-preserved : goal.loop-i-preserved
 loop-i-preserved c =
     place_more c.loop-i.invariant (omega arith) c.cell_at-c.result c.cell_at-c.ensures c.if-p-c.false c.field_end-q.result c.field_end-q.ensures
-
-pub returns : goal.returns
-returns c = place_none c.loop-i.invariant (omega arith)

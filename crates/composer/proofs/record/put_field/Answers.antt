@@ -1,23 +1,25 @@
--- composer::record::put_field meets its contract: the bytes up to the next tab, or to the line's end, for which there is room.
-use Prim.Native.Nat.{◌-◌}
 use native.Mathlib.Omega.{arith}
-use mathlib.Core.Path.{◌∙◌}
-use lib.ListN.{take, drop, length-drop}
-use lib.Seq.{length-take-le}
+use mathlib.Core.Path.{◌≡◌}
+use lib.ListN.{length}
+use Rattle.line_reader.proofs.ReachLaws.{reach_here, reach_end}
 use Rattle.listing.specs.Lines.{tab}
-use Rattle.line_reader.proofs.ReachLaws.{reach_le}
-use Rattle.output.proofs.OverLaws.{over_room}
+use Rattle.composer.proofs.PutLaws.{copy_room, copy_more, copy_end}
 use Rattle.composer.proofs.record.put_field.Goals as goal
 
-pub slice_bounds-copy-end : goal.slice_bounds-copy-end
-slice_bounds-copy-end c =
-    let a = c.args in
-    omega (arith, c.field_end-e.ensures, reach_le tab (drop a.q a.x.now), length-drop a.q a.x.now)
+pub bounds-out-p : goal.bounds-out-p
+bounds-out-p c = copy_room c.loop-i.invariant (omega arith) c.if-b-eq-TAB.false
 
-pub returns-clause-out : goal.returns-clause-out
-returns-clause-out c =
-    let a = c.args in
-    let e = c.field_end-e.result in
-    let inside = reach_le tab (drop a.q a.x.now) in
-    let long = length-take-le (e - a.q) (drop a.q a.x.now) (omega (arith, c.field_end-e.ensures)) in
-    c.copy.ensures ∙ over_room a.p (take (e - a.q) (drop a.q a.x.now)) a.out.now (omega (arith, c.field_end-e.ensures))
+pub loop-i-preserved : goal.loop-i-preserved
+loop-i-preserved c = copy_more c.loop-i.invariant (omega arith) c.if-b-eq-TAB.false
+
+pub returns-then-b-eq-TAB : goal.returns-then-b-eq-TAB
+returns-then-b-eq-TAB c =
+    let i = c.loop-i.i in
+    let said = copy_end c.loop-i.invariant (reach_here tab c.args.x.now i (omega arith) c.if-b-eq-TAB.true) in
+    record { place = said.0; out = said.1 }
+
+pub returns : goal.returns
+returns c =
+    let end : c.loop-i.i ≡ length c.args.x.now = omega (arith, c.loop-i.invariant.inside) in
+    let said = rw end at (copy_end c.loop-i.invariant (reach_end tab c.args.x.now c.loop-i.i (omega arith))) in
+    record { place = said.0; out = said.1 }

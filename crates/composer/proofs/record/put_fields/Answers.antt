@@ -1,9 +1,6 @@
 use native.Mathlib.Omega.{arith}
-use Rattle.composer.proofs.PutLaws.{put_long, put_inside, put_room, one_more, put_more, put_all}
+use Rattle.composer.proofs.PutLaws.{put_inside, put_room, one_more, put_more, put_all}
 use Rattle.composer.proofs.record.put_fields.Goals as goal
-
-pub loop-i-init : goal.loop-i-init
-loop-i-init c = (λ some. c.requires, c.requires.laid)
 
 pub put_field-q-requires : goal.put_field-q-requires
 put_field-q-requires c =
@@ -23,6 +20,3 @@ loop-i-preserved c =
 
 pub returns : goal.returns
 returns c = let a = c.args in put_all a.head a.k a.n a.x.now c.loop-i.i c.requires.line (omega arith) c.loop-i.invariant.1
-
-pub shape_of-out : goal.shape_of-out
-shape_of-out c = put_long c.requires _ c.loop-i.invariant.1
