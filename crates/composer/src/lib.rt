@@ -20,7 +20,6 @@ ghost use Rattle.composer.specs.Writing.{composed_payments, AcceptedListing, Rea
 
 use fields::{FileKind, KindRead, Number, Refusal, refusals};
 use header::HeaderRead;
-use line_reader::LineSeen;
 use output::Written;
 use payment::PaymentRead;
 use sums::Sums;
@@ -161,9 +160,8 @@ fn line_at(l: &[u8], p: usize, kind: FileKind, count: u64, sums: Sums, space: &m
     requires { (p ≤ length l.now) × (length space.old ≡ 128 * section most_parts) }
     ensures { LineTold l.now p (letters_of kind) (totals_of count sums) sums result }
 {
-    let seen = line_reader::read_line(l, p, kind, count, sums);
-    if let LineSeen::Is(new_sums, bytes, next) = seen {
-        return LineRead::Is(new_sums, bytes, next);
+    if let Some(seen) = line_reader::read_line(l, p, kind, count, sums) {
+        return LineRead::Is(seen.sums, seen.bytes, seen.next);
     }
     let e = line_reader::reaching::reach(l, p, layout::line::END);
     if e == l.len() {

@@ -11,22 +11,22 @@ use Rattle.line_reader.proofs.KeptLaws.{both, each, kept_c4, kept_c5, kept_c6, k
 use Rattle.line_reader.proofs.receiver_at.Goals as goal
 
 pub returns-in_default : goal.returns-in_default
-returns-in_default c = λ a b r. no_number _ _ _ c.number_at-c3.ensures c.in_default.is r.C3
+returns-in_default c = λ on r. no_number _ _ _ c.number_at-c3.ensures c.in_default.is r.C3
 
 pub returns-in_default-c4 : goal.returns-in_default-c4
-returns-in_default-c4 c = λ a b r. no_number _ _ _ c.number_at-c4.ensures c.in_default-c4.is (read_c4 r)
+returns-in_default-c4 c = λ on r. no_number _ _ _ c.number_at-c4.ensures c.in_default-c4.is (read_c4 r)
 
 pub returns-in_default-c5 : goal.returns-in_default-c5
-returns-in_default-c5 c = λ a b r. no_number _ _ _ c.number_at-c5.ensures c.in_default-c5.is (read_c5 r)
+returns-in_default-c5 c = λ on r. no_number _ _ _ c.number_at-c5.ensures c.in_default-c5.is (read_c5 r)
 
 pub returns-in_default-c6 : goal.returns-in_default-c6
-returns-in_default-c6 c = λ a b r. no_number _ _ _ c.number_at-c6.ensures c.in_default-c6.is (read_c6 r)
+returns-in_default-c6 c = λ on r. no_number _ _ _ c.number_at-c6.ensures c.in_default-c6.is (read_c6 r)
 
 pub returns-in_default-c7a : goal.returns-in_default-c7a
-returns-in_default-c7a c = λ a b r. no_number _ _ _ c.number_at-c7a.ensures c.in_default-c7a.is (read_c7a r)
+returns-in_default-c7a c = λ on r. no_number _ _ _ c.number_at-c7a.ensures c.in_default-c7a.is (read_c7a r)
 
 pub returns-in_default-c7b : goal.returns-in_default-c7b
-returns-in_default-c7b c = λ a b r. no_number _ _ _ c.number_at-c7b.ensures c.in_default-c7b.is (read_c7b r)
+returns-in_default-c7b c = λ on r. no_number _ _ _ c.number_at-c7b.ensures c.in_default-c7b.is (read_c7b r)
 
 pub returns-then-not-receiver-customer_ok : goal.returns-then-not-receiver-customer_ok
 returns-then-not-receiver-customer_ok c =
@@ -35,17 +35,17 @@ returns-then-not-receiver-customer_ok c =
     let c6 = (number_is _ _ _ c.number_at-c6.ensures c.in-Is-c6.is).0 in
     let c7a = (number_is _ _ _ c.number_at-c7a.ensures c.in-Is-c7a.is).0 in
     let c7b = (number_is _ _ _ c.number_at-c7b.ensures c.in-Is-c7b.is).0 in
-    λ a b r. receiver_tests r c4 c5 c6 c7a c7b c.bank_code_ok.ensures c.customer_ok.ensures c.key_ok.ensures c.supplement_ok.ensures c.if-not-receiver-customer_ok.true-raw
+    λ on r. receiver_tests r c4 c5 c6 c7a c7b c.bank_code_ok.ensures c.customer_ok.ensures c.key_ok.ensures c.supplement_ok.ensures c.if-not-receiver-customer_ok.true-raw
 
 pub returns-in_default-new_accounts : goal.returns-in_default-new_accounts
 returns-in_default-new_accounts c =
     let c5 = (number_is _ _ _ c.number_at-c5.ensures c.in-Is-c5.is).0 in
-    λ a b r. failed (keeps_c5 r c5).1.0 (accounts_over _ _ c.add-new_accounts.ensures c.in_default-new_accounts.is)
+    λ on r. failed (keeps_c5 r c5).1.0 (accounts_over _ _ c.add-new_accounts.ensures c.in_default-new_accounts.is)
 
 pub returns-in_default-new_banks : goal.returns-in_default-new_banks
 returns-in_default-new_banks c =
     let c4 = (number_is _ _ _ c.number_at-c4.ensures c.in-Is-c4.is).0 in
-    λ a b r. failed (keeps_c4 r c4).1.0 (bank_codes_over _ _ c.add-new_banks.ensures c.in_default-new_banks.is)
+    λ on r. failed (keeps_c4 r c4).1.0 (bank_codes_over _ _ c.add-new_banks.ensures c.in_default-new_banks.is)
 
 pub returns : goal.returns
 returns c =
