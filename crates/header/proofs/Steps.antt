@@ -69,6 +69,7 @@ order_told made s p =
     Ok (record { account = a9.0; reference = a10.0; execution = a11b.0 }, q))))))))
 
 order_gives : (made : calendar.Day) (s : List ℕ) (p : ℕ) → Gives orders s (order made) p (order_told made s p)
+unfolding order
 order_gives made s p =
     step passings _ (λ v. step numbers _ (λ account. step numbers _ (λ reference. step passings _ (λ v. step_ruled executions _ (λ execution.
     step passings _ (λ v. step passings _ (λ v. at_end)))))))
@@ -96,6 +97,7 @@ header_told s p =
     )))
 
 header_gives : (s : List ℕ) (p : ℕ) → Gives headers s header p (header_told s p)
+unfolding order
 header_gives s p =
     step_part opening behind_opening openings _ (λ o q e. step_part (order o.made) (λ x. ret (joined o x)) orders _ (λ x r i. at_end))
 

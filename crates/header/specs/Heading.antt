@@ -50,7 +50,7 @@ pub record Order : Type 0 where
   pub reference : ℕ
   pub execution : Option calendar.Day
 
-abbrev pub order : calendar.Day → Form Name Order
+unfoldable pub order : calendar.Day → Form Name Order
 order made = do
   must A8 (blanks 4)
   account ← any A9 (digits 10)
@@ -88,6 +88,7 @@ behind_opening o = do
   ret (joined o x)
 
 pub in_stretches : header ≡ opening >>= behind_opening
+unfolding order
 in_stretches = refl
 
 -- what the code keeps of a header

@@ -55,6 +55,7 @@ fn sending_bank_at(s: &[u8], p: usize, kind: FileKind) -> Reading<(u64, usize)>
 }
 
 // A1 to A7 at p.
+#[tactic(auto, using(crate::proofs::Steps::opening_steps))]
 fn opening_at(s: &[u8], p: usize) -> Reading<(Opening, usize)>
     ensures { result ≡ of_read openings (read_at opening s.now p) }
 {
@@ -98,6 +99,7 @@ fn opening_at(s: &[u8], p: usize) -> Reading<(Opening, usize)>
 }
 
 // A8 to A12 at p, of a file made on the day `made`.
+#[tactic(auto, using(crate::proofs::Steps::order_steps))]
 fn order_at(s: &[u8], p: usize, made: Day) -> Reading<(Order, usize)>
     ensures { result ≡ of_read orders (read_at (order (day_of made)) s.now p) }
 {
@@ -140,6 +142,7 @@ fn order_at(s: &[u8], p: usize, made: Day) -> Reading<(Order, usize)>
 }
 
 // A at p.
+#[tactic(auto, using(crate::proofs::Steps::header_steps))]
 pub fn header_at(s: &[u8], p: usize) -> Reading<(Header, usize)>
     ensures { result ≡ of_read headers (read_at header s.now p) }
 {
