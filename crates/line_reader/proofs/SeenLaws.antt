@@ -19,8 +19,7 @@ use Rattle.form.specs.Kind.{digits}
 use Rattle.form.specs.Reader.{has}
 use Rattle.form.specs.Place.{look_at}
 use Rattle.document.specs.Marks.{room_after, mark_ok}
-use Rattle.fields.specs.declared.Number.{Number}
-use Rattle.fields.specs.declared.Number.TheVariants as number
+use Rattle.std.specs.Prelude.{Ok}
 use Rattle.fields.specs.Answers as answers
 use Rattle.fields.proofs.AnswerLaws.{number_is}
 use Rattle.listing.specs.Lines.{tab, line_end, ends_in_blank}
@@ -116,8 +115,8 @@ names_once t u = text_once (names_last u.C14a u.C15 t) u.C16
 -- ---- a part
 
 -- the number of a mark was read behind the tab at q
-module _ (l : List ℕ) (q : ℕ) {mark behind : ℕ} {a : Number} (told : a ≡ answers.of_field answers.numbers (q + 1) (q + 1 + 2) (look_at (digits 2) l (q + 1)))
-    (given : a ≡ number.Is mark behind) where
+module _ (l : List ℕ) (q : ℕ) {mark behind : ℕ} {a : answers.Reading (ℕ × ℕ)} (told : a ≡ answers.of_field answers.numbers (q + 1) (q + 1 + 2) (look_at (digits 2) l (q + 1)))
+    (given : a ≡ Ok (mark, behind)) where
   read : (look_at (digits 2) l (q + 1) ≡ has mark) × (behind ≡ q + 1 + 2)
   read = number_is (q + 1) (q + 1 + 2) (look_at (digits 2) l (q + 1)) told given
 

@@ -11,9 +11,9 @@ ghost use Rattle.listing.specs.Lines.{line_end, split};
 ghost use Rattle.line_reader.specs.Lines.{parted, Receivers, Amounts, Numbers, signs_end, Texts, Names, OnePart, AllParts};
 ghost use Rattle.line_reader.specs.Told.{line_seen};
 
-use fields::{FileKind, Number, fixed};
+use fields::{FileKind, fixed};
 use layout::{line, width};
-use sums::{AccountSum, AccountsAdded, BankCodeSum, BankCodesAdded, CentSum, CentsAdded, Sums};
+use sums::{AccountSum, BankCodeSum, CentSum, Sums};
 
 pub mod reaching;
 
@@ -59,27 +59,27 @@ fn receiver_at(
     ensures { Receivers l.now p (letters_of kind) accounts.0 banks.0 result }
 {
     let c3 = fields::number_at(l, p + line::C3, width::C3);
-    let Number::Is(_, _) = c3 else {
+    let Ok((_, _)) = c3 else {
         return None;
     };
     let c4 = fields::number_at(l, p + line::C4, width::C4);
-    let Number::Is(bank_code, _) = c4 else {
+    let Ok((bank_code, _)) = c4 else {
         return None;
     };
     let c5 = fields::number_at(l, p + line::C5, width::C5);
-    let Number::Is(account, _) = c5 else {
+    let Ok((account, _)) = c5 else {
         return None;
     };
     let c6 = fields::number_at(l, p + line::C6, width::C6);
-    let Number::Is(customer, _) = c6 else {
+    let Ok((customer, _)) = c6 else {
         return None;
     };
     let c7a = fields::number_at(l, p + line::C7A, width::C7A);
-    let Number::Is(key, _) = c7a else {
+    let Ok((key, _)) = c7a else {
         return None;
     };
     let c7b = fields::number_at(l, p + line::C7B, width::C7B);
-    let Number::Is(supplement, _) = c7b else {
+    let Ok((supplement, _)) = c7b else {
         return None;
     };
     let receiver = payment_fields::bank_code_ok(bank_code) & (account != 0);
@@ -87,15 +87,9 @@ fn receiver_at(
     if !(receiver & payment_fields::customer_ok(customer) & keys) {
         return None;
     }
-    let new_accounts = accounts.add(account);
-    let AccountsAdded::Within(a) = new_accounts else {
-        return None;
-    };
-    let new_banks = banks.add(bank_code);
-    let BankCodesAdded::Within(b) = new_banks else {
-        return None;
-    };
-    Some((a, b))
+    let new_accounts = accounts.add(account)?;
+    let new_banks = banks.add(bank_code)?;
+    Some((new_accounts, new_banks))
 }
 
 // C10 to C12 of the line at p: the sum with its cents.
@@ -104,26 +98,23 @@ fn amount_at(l: &[u8], p: usize, cents: CentSum) -> Option<CentSum>
     ensures { Amounts l.now p cents.0 result }
 {
     let c10 = fields::number_at(l, p + line::C10, width::C10);
-    let Number::Is(bank_code, _) = c10 else {
+    let Ok((bank_code, _)) = c10 else {
         return None;
     };
     let c11 = fields::number_at(l, p + line::C11, width::C11);
-    let Number::Is(account, _) = c11 else {
+    let Ok((account, _)) = c11 else {
         return None;
     };
     let c12 = fields::number_at(l, p + line::C12, width::C12);
-    let Number::Is(v, _) = c12 else {
+    let Ok((v, _)) = c12 else {
         return None;
     };
     let sender = payment_fields::bank_code_ok(bank_code) & (account != 0);
     if !(sender & (v != 0)) {
         return None;
     }
-    let new_cents = cents.add(v);
-    let CentsAdded::Within(c) = new_cents else {
-        return None;
-    };
-    Some(c)
+    let new_cents = cents.add(v)?;
+    Some(new_cents)
 }
 
 // All numbers of the line at p, and the tabs between them: the sums with these numbers.
@@ -213,7 +204,7 @@ fn part_at(l: &[u8], q: usize, room: u64) -> Option<(u64, usize)>
         return None;
     }
     let read = fields::number_at(l, q + 1, width::MARK);
-    let Number::Is(mark, behind) = read else {
+    let Ok((mark, behind)) = read else {
         return None;
     };
     if !parts::mark_ok(room, mark) {
