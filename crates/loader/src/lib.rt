@@ -141,7 +141,9 @@ pub fn load(s: &[u8], c4: &mut [u64], c5: &mut [u64], c12: &mut [u64], start: &m
     checked
 }
 
-// Writes the rows of all files of an accepted medium, and for each file its row of the table.
+// Writes the rows of all files of an accepted medium, and for each file its row of the table. Where the next file begins hangs on what this one
+// held, so no range tells the places. The columns stand apart, as C lends them: in a struct, `fill_file` and this would owe for each column a clause
+// more, that the struct keeps its reference.
 fn fill_medium(
     s: &[u8],
     c4: &mut [u64],
