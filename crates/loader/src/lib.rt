@@ -22,7 +22,7 @@ use checker::Checked;
 use fields::refusals;
 use layout::{at, length, width};
 use medium::MediumChecked;
-use sums::{AccountsAdded, BankCodesAdded, CentsAdded, Sums};
+use sums::Sums;
 
 // The number of w digits at p. The file has been accepted, so they are not tested again.
 fn known_number(s: &[u8], p: usize, w: usize) -> u64
@@ -53,15 +53,15 @@ fn plus_payment(sums: Sums, account: u64, code: u64, amount: u64) -> Sums
     let banks = sums.banks;
     let cents = sums.cents;
     let new_accounts = accounts.add(account);
-    let AccountsAdded::Within(a) = new_accounts else {
+    let Some(a) = new_accounts else {
         return sums::NO_SUMS;
     };
     let new_banks = banks.add(code);
-    let BankCodesAdded::Within(b) = new_banks else {
+    let Some(b) = new_banks else {
         return sums::NO_SUMS;
     };
     let new_cents = cents.add(amount);
-    let CentsAdded::Within(c) = new_cents else {
+    let Some(c) = new_cents else {
         return sums::NO_SUMS;
     };
     Sums {
@@ -110,8 +110,8 @@ fn fill_file(
         count += 1;
     }
     FileRows {
-        count: count,
-        sums: sums,
+        count,
+        sums,
         next: p + length::E,
     }
 }
