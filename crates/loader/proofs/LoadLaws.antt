@@ -102,8 +102,14 @@ module _ (file c4 c5 c12 start : List ℕ) where
             let n : c.count ≡ length x.0.payments = count_is file told zero ∙ ap (λ a. length (payments_of a)) (accepted_reading file x) in
             record { says = x.0; behind = 0 + length (write x.0); inside = omega arith; read = read_first file told zero; room = rw (zero-add, ← n) room }
 
-        pub load_full : {r : FileRows} {c4' c5' c12' start' : List ℕ} → FilledAt file 0 0 c4 c5 c12 start r c4' c5' c12' start'
+        -- what the fill wrote are the rows of all payments
+        pub all_rows : {r : FileRows} {c4' c5' c12' start' : List ℕ} → FilledAt file 0 0 c4 c5 c12 start r c4' c5' c12' start'
+            → Filled (payments_of (answer file)) c4 c5 c12 start c4' c5' c12' start'
+        all_rows {c4' = c4'} {c5' = c5'} {c12' = c12'} {start' = start'} f =
+            subst (λ ps. Filled ps c4 c5 c12 start c4' c5' c12' start') (payments_same file told zero) (filled_from_first may_fill f)
+
+        pub load_full : {c4' c5' c12' start' : List ℕ} → Filled (payments_of (answer file)) c4 c5 c12 start c4' c5' c12' start'
             → Says file c4 c5 c12 start c c4' c5' c12' start'
-        load_full {c4' = c4'} {c5' = c5'} {c12' = c12'} {start' = start'} f =
-            let all : payments_at file 0 ≡ rows c file = payments_same file told zero ∙ rw (eq-eqb c.verdict.number 0 zero) in
-            (told ∙ ap checked_of (sym (loaded_if ∙ rw room)), subst (λ ps. Filled ps c4 c5 c12 start c4' c5' c12' start') all (filled_from_first may_fill f))
+        load_full {c4'} {c5'} {c12'} {start'} f =
+            let all : payments_of (answer file) ≡ rows c file = rw (eq-eqb c.verdict.number 0 zero) in
+            (told ∙ ap checked_of (sym (loaded_if ∙ rw room)), subst (λ ps. Filled ps c4 c5 c12 start c4' c5' c12' start') all f)

@@ -1,6 +1,6 @@
 -- loader::load meets its contract: the check's refusal, no room, or all rows.
 use borrow.Author.Tests.{not-false, not-true}
-use Rattle.loader.proofs.LoadLaws.{load_refused, load_no_room, may_fill, load_full}
+use Rattle.loader.proofs.LoadLaws.{load_refused, load_no_room, may_fill, all_rows, load_full}
 use Rattle.loader.proofs.load.Goals as goal
 
 pub returns-then-checked-ne0 : goal.returns-then-checked-ne0
@@ -18,4 +18,6 @@ fill_file-requires c =
 
 pub returns : goal.returns
 returns c =
-    let said = load_full _ _ _ _ _ c.check-checked.ensures c.if-checked-ne0.false (not-false _ c.if-not-roomy.false-raw) (let e = c.fill_file.ensures in (e.answer, (e.c4, (e.c5, (e.c12, e.start))))) in record { answer = said.0; c4 = said.1.0; c5 = said.1.1.0; c12 = said.1.1.1.0; start = said.1.1.1.1 }
+    let e = c.fill_file.ensures in
+    let written = all_rows _ _ _ _ _ c.check-checked.ensures c.if-checked-ne0.false (not-false _ c.if-not-roomy.false-raw) (e.answer, (e.c4, (e.c5, (e.c12, e.start)))) in
+    let said = load_full _ _ _ _ _ c.check-checked.ensures c.if-checked-ne0.false (not-false _ c.if-not-roomy.false-raw) written in record { answer = said.0; c4 = said.1.0; c5 = said.1.1.0; c12 = said.1.1.1.0; start = said.1.1.1.1 }
