@@ -33,12 +33,6 @@ overflow_add-length-in-loop-i c =
     let more = count_more c.loop-i.invariant here c.loop-i-test.true (width_is _ c.cell_at-c.result.width _ c.trimmed.ensures) in
     omega (arith, count_short more)
 
-pub overflow_add-i : goal.overflow_add-i
-overflow_add-i c = omega arith
-
-pub loop-i-smaller : goal.loop-i-smaller
-loop-i-smaller c = omega arith
-
 pub loop-i-preserved : goal.loop-i-preserved
 loop-i-preserved c =
     let here : let a = c.args in Lying a.s.now a.p (cells_of a.head) c.loop-i.i c.cell_at-c.result = lying c.args.head c.args.n c.args.s.now c.args.p c.requires _ c.loop-i-test.true _ c.cell_at-c.ensures in
