@@ -10,11 +10,6 @@ use Rattle.finder.specs.Seeking.{has_text}
 use Rattle.finder.proofs.PlaceLaws.{part_bounds, mark_place_lem}
 use Rattle.finder.proofs.text_place.Goals as goal
 
-pub overflow_sub-i : goal.overflow_sub-i
-overflow_sub-i c =
-    let bounds : let i = c.in-Part.i in (1 ≤ i) × (i ≤ most_parts) = part_bounds (ap (λ w. has_text w most_parts) (sym c.in-Part.is) ∙ c.requires) in
-    bounds.0
-
 pub overflow_add-result : goal.overflow_add-result
 overflow_add-result c =
     let bounds : let i = c.in-Part.i in (1 ≤ i) × (i ≤ most_parts) = part_bounds (ap (λ w. has_text w most_parts) (sym c.in-Part.is) ∙ c.requires) in
