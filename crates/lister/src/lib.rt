@@ -99,8 +99,7 @@ fn print_header(s: &[u8], out: &mut [u8]) -> usize
     at + 1
 }
 
-// Prints the numbers that the line of a payment begins with, `line::NUMBERS_OF_C` of them, and tells the place behind them. Each has a call of its
-// own, and no loop counts them, so that the compiler knows the width of each.
+// Prints the numbers that the line of a payment begins with, `line::NUMBERS_OF_C` of them, and tells the place behind them.
 fn print_numbers(s: &[u8], p: usize, out: &mut [u8], at: usize) -> usize
     requires { NumbersLie s.now p × (at + length (numbers_at s.now p) ≤ length out.old) }
     ensures place { result ≡ at + length (numbers_at s.now p) }

@@ -10,6 +10,3 @@ use Rattle.lister.proofs.has_room.Goals as goal
 pub returns-then-s-room : goal.returns-then-s-room
 returns-then-s-room c =
     sym (le-leb (length (listing_of c.args.s.now)) c.args.room (omega (arith, listing_short c.args.n c.args.s.now c.requires)))
-
-pub returns : goal.returns
-returns c = ap (λ n. leb n c.args.room) c.listing_length.ensures

@@ -31,9 +31,6 @@ loop-row-preserved c =
     list_more s h c.count_at-k.ensures e.place e.out
     (pass_on s.standing.passing (still_coming s.standing h) c.count_at-k.ensures c.bytes_of-p.ensures (row_on s.standing))
 
-pub shape_of-out : goal.shape_of-out
-shape_of-out c = omega arith
-
 pub returns : goal.returns
 returns c =
     let s = c.loop-row.invariant in

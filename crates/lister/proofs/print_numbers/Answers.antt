@@ -1,23 +1,13 @@
 use native.Mathlib.Omega.{arith}
-use Prim.Native.Nat.{◌+◌}
 use mathlib.Core.Path.{◌≡◌, refl}
 use mathlib.Core.Bool.{false}
 use mathlib.Core.List.{[], ◌∷◌}
+use Prim.Native.Nat.{◌+◌}
 use Rattle.listing.specs.Lines.{tab}
 use Rattle.listing.specs.Records.{numbers_of_payment_line}
 use Rattle.lister.specs.Printing.{printed_field}
-use Rattle.lister.proofs.PrintLaws.{going_room, going_more, going_ends, numbers_from, numbers_more}
+use Rattle.lister.proofs.PrintLaws.{going_more, going_ends, numbers_from, numbers_more}
 use Rattle.lister.proofs.print_numbers.Goals as goal
-
-pub loop-i-init : goal.loop-i-init
-loop-i-init c = record { room = c.requires.1; long = refl; place = refl; written = refl }
-
-pub print_number-q-requires : goal.print_number-q-requires
-print_number-q-requires c =
-    let a = c.args in
-    let i = c.loop-i.i in
-    let l = c.requires.0 i c.loop-i-test.true in
-    (l.0, l.1, going_room c.loop-i.invariant (tab ∷ printed_field false i a.s.now a.p) (i + 1) (numbers_more a.s.now a.p i c.loop-i-test.true))
 
 pub loop-i-preserved : goal.loop-i-preserved
 loop-i-preserved c =
@@ -26,8 +16,8 @@ loop-i-preserved c =
     let e = c.print_number-q.ensures in
     going_more c.loop-i.invariant (tab ∷ printed_field false i a.s.now a.p) (i + 1) (numbers_more a.s.now a.p i c.loop-i-test.true) e.place e.out
 
-pub returns : goal.returns
-returns c =
+pub returns-clause-out : goal.returns-clause-out
+returns-clause-out c =
     let e : c.loop-i.i ≡ numbers_of_payment_line = omega arith in
     let none : numbers_from c.args.s.now c.args.p c.loop-i.i ≡ [] = rw e in
-    let said = going_ends c.loop-i.invariant none in record { place = said.0; out = said.1 }
+    (going_ends c.loop-i.invariant none).1

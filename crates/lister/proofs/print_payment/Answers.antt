@@ -8,12 +8,6 @@ use Rattle.lister.proofs.LineLaws.{line_long}
 use Rattle.lister.proofs.PrintingLaws.{Printing, line_start, numbers_may, numbers_printed, field_may, field_printed, part_may, part_printed, line_ends}
 use Rattle.lister.proofs.print_payment.Goals as goal
 
-pub bounds-out-q : goal.bounds-out-q
-bounds-out-q c = let a = c.args in omega (arith, line_long false (fields_with a.k) a.s.now a.p)
-
-pub overflow_add-q : goal.overflow_add-q
-overflow_add-q c = let a = c.args in omega (arith, line_long false (fields_with a.k) a.s.now a.p)
-
 pub print_numbers-at-requires : goal.print_numbers-at-requires
 print_numbers-at-requires c = numbers_may c.args.k (line_start _ _ _ _ _ _ c.requires.0 c.requires.2 c.letter.ensures) c.requires.1
 
@@ -41,14 +35,5 @@ print_part-at-requires c = part_may c.args.k c.loop-part.part c.loop-part.invari
 pub loop-part-preserved : goal.loop-part-preserved
 loop-part-preserved c = let e = c.print_part-at.ensures in part_printed c.args.k c.loop-part.part c.loop-part.invariant c.loop-part-test.true e.place e.out
 
-pub bounds-out-at : goal.bounds-out-at
-bounds-out-at c = (line_ends c.loop-part.invariant (omega arith)).room
-
-pub overflow_add-result : goal.overflow_add-result
-overflow_add-result c = let e = line_ends c.loop-part.invariant (omega arith) in omega (arith, e.place, e.room)
-
-pub shape_of-out : goal.shape_of-out
-shape_of-out c = rw length-set (line_ends c.loop-part.invariant (omega arith)).long
-
-pub returns : goal.returns
-returns c = let e = line_ends c.loop-part.invariant (omega arith) in record { place = e.place; out = e.whole }
+pub returns-clause-out : goal.returns-clause-out
+returns-clause-out c = (line_ends c.loop-part.invariant (omega arith)).whole
