@@ -9,7 +9,7 @@ use native.Mathlib.Omega.{arith}
 use mathlib.Core.Path.{◌≡◌, refl, sym, ap, ap₂, subst, ◌∙◌}
 use mathlib.Core.Bool.{Bool, false}
 use mathlib.Core.List.{List, [], ◌∷◌, ◌++◌, append_assoc}
-use lib.ListN.{length, take, drop, set, get_elem?, length-append, length-take, length-set, drop_of_length-le}
+use lib.ListN.{length, take, drop, set, get_elem?, length-append, length-take, length-set}
 use lib.Seq.{take-take}
 use Rattle.form.specs.Kind.{width}
 use Rattle.listing.specs.Lines.{tab, line_end, behind_tabs, trim}
@@ -17,9 +17,9 @@ use Rattle.listing.specs.Records.{numbers_of_payment_line, fields_with, Cell, cu
 use Rattle.listing.proofs.LineLaws.{length_trim, trim_take}
 use Rattle.layout.specs.declared.Cell.{Cell as CodeCell}
 use Rattle.output.specs.Writing.{over, over_if_room}
-use Rattle.layout.specs.Cells.{letter_of, cells_of, cell_of, cell_at}
+use Rattle.layout.specs.Cells.{cells_of, cell_of, cell_at}
 use Rattle.output.proofs.OverLaws.{over_room, over_length, over_nothing, over_next, over_more}
-use Rattle.lister.specs.Printing.{line_at, Lies, printed_cell, FieldLies, printed_field, numbers_at, part_at}
+use Rattle.lister.specs.Printing.{Lies, printed_cell, FieldLies, printed_field, numbers_at, part_at}
 use Rattle.lister.proofs.LineLaws.{tabbed, part_is}
 
 -- ---- one field

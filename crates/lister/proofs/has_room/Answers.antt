@@ -1,8 +1,7 @@
 -- lister::has_room meets its contract: no listing is longer than its file, and a shorter output is held to the length of the listing.
 use native.Mathlib.Omega.{arith}
-use mathlib.Core.Path.{sym, ap}
+use mathlib.Core.Path.{sym}
 use lib.ListN.{length}
-use lib.Dec.{leb}
 use borrow.Author.Tests.{le-leb}
 use Rattle.lister.proofs.ListingLaws.{listing_of, listing_short}
 use Rattle.lister.proofs.has_room.Goals as goal

@@ -1,10 +1,7 @@
-use Prim.Native.Nat.{◌<◌}
 use native.Mathlib.Omega.{arith}
 use mathlib.Core.Path.{◌≡◌, subst}
 use mathlib.Core.Bool.{false}
-use lib.ListN.{set, length-set}
 use Rattle.listing.specs.Records.{fields_of_payment_line, fields_with}
-use Rattle.lister.proofs.LineLaws.{line_long}
 use Rattle.lister.proofs.PrintingLaws.{Printing, line_start, numbers_may, numbers_printed, field_may, field_printed, part_may, part_printed, line_ends}
 use Rattle.lister.proofs.print_payment.Goals as goal
 

@@ -1,5 +1,5 @@
 -- lister::trimmed meets its contract: behind the place of the last byte that is no blank there are only blanks.
-use Rattle.std.proofs.Common.{rules, ℕ, ◌<◌, ◌≡◌, ◌≢◌, length, get_or}
+use Rattle.std.proofs.Common.{rules}
 use Rattle.std.proofs.iter.runs.Made.{chains}
 use Rattle.lister.proofs.TrimLaws.{trims_to, trims_all}
 use Rattle.lister.proofs.trimmed.Goals as goal
