@@ -1,9 +1,9 @@
 -- A part of a payment: mark and text stand side by side, and one is printed behind the other.
-use Prim.Native.Nat.{ℕ, suc, ◌+◌, ◌-◌, ◌≤◌, ◌<◌}
+use Prim.Native.Nat.{ℕ, ◌+◌, ◌-◌, ◌≤◌, ◌<◌}
 use native.Mathlib.Omega.{arith}
 use mathlib.Core.Path.{◌≡◌, refl, sym, ap, ap₂, subst, ◌∙◌}
 use mathlib.Core.Bool.{false}
-use mathlib.Core.List.{List, ◌∷◌, ◌++◌, append-nil}
+use mathlib.Core.List.{List, ◌∷◌, append-nil}
 use lib.ListN.{length, take, drop, length-append}
 use Rattle.form.specs.Kind.{numeral}
 use Rattle.form.proofs.BelowLaws.{below, agree}

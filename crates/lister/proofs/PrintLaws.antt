@@ -9,7 +9,7 @@ use native.Mathlib.Omega.{arith}
 use mathlib.Core.Path.{◌≡◌, refl, sym, ap, ap₂, subst, ◌∙◌}
 use mathlib.Core.Bool.{Bool, false}
 use mathlib.Core.List.{List, [], ◌∷◌, ◌++◌, append_assoc, append-nil}
-use lib.ListN.{length, take, drop, set, get_elem?, length-append, length-take, length-set}
+use lib.ListN.{length, take, drop, set, get_elem?, length-append, length-take}
 use lib.Seq.{take-take}
 use Rattle.form.specs.Kind.{width}
 use Rattle.listing.specs.Lines.{tab, line_end, behind_tabs, trim}

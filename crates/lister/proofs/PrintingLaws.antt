@@ -3,9 +3,9 @@
 -- makes the output what the whole line makes of it. A field, the numbers of a payment or a part of it have room and lie in the file (`field_may`,
 -- `numbers_may`, `part_may`), and once printed they take the line on (`field_printed`, `numbers_printed`, `part_printed`). Behind the last field
 -- the line's end alone is still to come, and with it the line is whole (`line_ends`).
-use Prim.Native.Nat.{ℕ, suc, ◌+◌, ◌≤◌, ◌<◌}
+use Prim.Native.Nat.{ℕ, ◌+◌, ◌≤◌, ◌<◌}
 use native.Mathlib.Omega.{arith}
-use mathlib.Core.Path.{◌≡◌, refl, sym, ap, ◌∙◌}
+use mathlib.Core.Path.{◌≡◌, refl, ap}
 use mathlib.Core.Bool.{Bool, false}
 use mathlib.Core.List.{List, [], ◌∷◌, ◌++◌}
 use lib.ListN.{length, take, length-take, drop_of_length-le}

@@ -1,5 +1,4 @@
 -- lister::Pen::put_behind_tab meets its contract: a tab, and the bytes right behind it.
-use mathlib.Core.Path.{refl}
 use native.Mathlib.Omega.{arith}
 use Rattle.lister.proofs.PrintLaws.{behind_tab_lem}
 use Rattle.lister.proofs.Pen.put_behind_tab.Goals as goal

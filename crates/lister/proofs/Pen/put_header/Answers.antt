@@ -1,12 +1,5 @@
-use native.Mathlib.Omega.{arith}
-use mathlib.Core.Bool.{true}
-use Rattle.listing.specs.Records.{fields_of_header_line}
-use Rattle.lister.proofs.LineLaws.{line_long}
 use Rattle.lister.proofs.PrintingLaws.{field_may, field_printed, line_start, end_may, line_ends}
 use Rattle.lister.proofs.Pen.put_header.Goals as goal
-
-pub put-requires : goal.put-requires
-put-requires c = omega (arith, c.requires.1, line_long true fields_of_header_line c.args.s.now 0)
 
 pub loop-i-init : goal.loop-i-init
 loop-i-init c = line_start _ _ _ _ c.requires.0 c.requires.1 c.letter.ensures c.put.ensures

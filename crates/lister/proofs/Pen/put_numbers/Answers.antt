@@ -1,23 +1,13 @@
 use Prim.Native.Nat.{◌+◌}
 use native.Mathlib.Omega.{arith}
-use mathlib.Core.Path.{◌≡◌, refl}
+use mathlib.Core.Path.{◌≡◌}
 use mathlib.Core.Bool.{false}
 use mathlib.Core.List.{[], ◌∷◌}
 use Rattle.listing.specs.Lines.{tab}
 use Rattle.listing.specs.Records.{numbers_of_payment_line}
 use Rattle.lister.specs.Printing.{printed_field}
-use Rattle.lister.proofs.PrintLaws.{going_room, going_more, going_done, numbers_from, numbers_more}
+use Rattle.lister.proofs.PrintLaws.{going_more, going_done, numbers_from, numbers_more}
 use Rattle.lister.proofs.Pen.put_numbers.Goals as goal
-
-pub loop-i-init : goal.loop-i-init
-loop-i-init c = record { same_reference = refl; room = c.requires.1; place = refl; written = refl }
-
-pub put_number-requires : goal.put_number-requires
-put_number-requires c =
-    let a = c.args in
-    let i = c.loop-i.i in
-    let l = c.requires.0 i c.loop-i-test.true in
-    (l.0, l.1, going_room c.loop-i.invariant (tab ∷ printed_field false i a.s.now a.p) (i + 1) (numbers_more a.s.now a.p i c.loop-i-test.true))
 
 pub loop-i-preserved : goal.loop-i-preserved
 loop-i-preserved c =

@@ -2,12 +2,8 @@ use native.Mathlib.Omega.{arith}
 use mathlib.Core.Path.{◌≡◌, subst}
 use mathlib.Core.Bool.{false}
 use Rattle.listing.specs.Records.{fields_of_payment_line, fields_with}
-use Rattle.lister.proofs.LineLaws.{line_long}
 use Rattle.lister.proofs.PrintingLaws.{Printing, line_start, numbers_may, numbers_printed, field_may, field_printed, part_may, part_printed, end_may, line_ends}
 use Rattle.lister.proofs.Pen.put_payment.Goals as goal
-
-pub put-requires : goal.put-requires
-put-requires c = let a = c.args in omega (arith, c.requires.2, line_long false (fields_with a.k) a.s.now a.p)
 
 pub put_numbers-requires : goal.put_numbers-requires
 put_numbers-requires c = numbers_may c.args.k (line_start _ _ _ _ c.requires.0 c.requires.2 c.letter.ensures c.put.ensures) c.requires.1

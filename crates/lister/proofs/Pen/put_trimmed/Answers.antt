@@ -1,9 +1,9 @@
 -- lister::Pen::put_trimmed meets its contract: the field's bytes before its trailing blanks, behind a tab.
 use native.Mathlib.Omega.{arith}
-use mathlib.Core.Path.{subst, sym}
+use mathlib.Core.Path.{subst}
 use mathlib.Core.List.{◌∷◌}
 use Rattle.listing.specs.Lines.{tab}
-use Rattle.lister.specs.Printing.{HasRoom, Wrote}
+use Rattle.lister.specs.Printing.{Wrote}
 use Rattle.lister.proofs.LineLaws.{width_is}
 use Rattle.lister.proofs.PrintLaws.{printed_narrow, bytes_are}
 use Rattle.lister.proofs.Pen.put_trimmed.Goals as goal
@@ -11,11 +11,6 @@ use Rattle.lister.proofs.Pen.put_trimmed.Goals as goal
 pub slice_bounds-put_behind_tab-end : goal.slice_bounds-put_behind_tab-end
 slice_bounds-put_behind_tab-end c =
     let a = c.args in omega (arith, printed_narrow a.a a.w a.s.now (width_is a.a a.w a.s.now c.trimmed-n.ensures))
-
-pub put_behind_tab-requires : goal.put_behind_tab-requires
-put_behind_tab-requires c =
-    let a = c.args in
-    subst (λ bs. HasRoom (tab ∷ bs) a.self.now) (sym (bytes_are a.a a.w a.s.now (width_is a.a a.w a.s.now c.trimmed-n.ensures))) c.requires.1
 
 pub returns : goal.returns
 returns c =
