@@ -25,93 +25,63 @@ pub enum DateCase {
 fn is_leap(year: u16) -> bool
     ensures { result ≡ leap year }
 {
-    if year % 4 != 0 {
-        return false;
-    }
-    if year % 100 != 0 {
-        return true;
-    }
-    year % 400 == 0
+    year % 4 == 0 && (year % 100 != 0 || year % 400 == 0)
 }
 
-fn month_days(year: u16, month: u8) -> u64
+#[tactic(auto, unfolding(document::specs::Calendar::month_days, document::specs::Calendar::leap_day))]
+fn month_days(year: u16, month: u8) -> u8
     ensures { result ≡ month_days year month }
 {
     match month {
-        2 => {
-            if is_leap(year) {
-                return 29;
-            }
-            28
-        }
+        2 if is_leap(year) => 29,
+        2 => 28,
         4 | 6 | 9 | 11 => 30,
         _ => 31,
     }
 }
 
-// Whether n is neither below the least nor above the most.
-fn within(n: u64, least: u64, most: u64) -> bool
-    ensures { result ≡ (leb least n && leb n most) }
-{
-    if n < least {
-        return false;
-    }
-    n <= most
-}
-
+#[tactic(auto, unfolding(document::specs::Calendar::is_day))]
 pub fn is_day(d: Day) -> bool
     ensures { result ≡ is_day (day_of d) }
 {
-    if !within(d.year as u64, 1, 9999) {
-        return false;
-    }
-    if !within(d.month as u64, 1, 12) {
-        return false;
-    }
-    within(d.day as u64, 1, month_days(d.year, d.month))
+    (1..=9999).contains(&d.year)
+        && (1..=12).contains(&d.month)
+        && (1..=month_days(d.year, d.month)).contains(&d.day)
 }
 
 // The days of the years from 1 to `years`.
+#[tactic(auto, unfolding(document::specs::Calendar::years_days))]
 fn years_days(years: u16) -> u64
     ensures { result ≡ years_days years }
 {
-    let y = years as u64;
+    let y = u64::from(years);
     365 * y + y / 4 - y / 100 + y / 400
 }
 
 // The days of the months from 1 to `months`.
+#[tactic(auto, using(document::proofs::CalendarLaws::month_most, crate::proofs::Laws::months_most), unfolding(document::specs::Calendar::months_days))]
 fn months_days(year: u16, months: u8) -> u64
     ensures { result ≡ months_days year months }
 {
-    let mut days: u64 = 0;
-    let mut month: u8 = 0;
-    while month < months {
-        month += 1;
-        days += month_days(year, month);
+    let mut days = 0;
+    for month in 1..=months {
+        days += u64::from(month_days(year, month));
     }
     days
 }
 
-// The number before n; 0 has none before it, and stays 0.
-fn one_less(n: u16) -> u16
-    ensures { result ≡ n - 1 }
-{
-    if n == 0 {
-        return 0;
-    }
-    n - 1
-}
-
-// 1 for the first day of the year 1, and one more each day.
+// 1 for the first day of the year 1, and one more each day. What is before the year 0 and the month 0 is 0 too.
+#[tactic(auto, using(crate::proofs::Laws::years_most, crate::proofs::Laws::months_most), unfolding(document::specs::Calendar::day_number))]
 fn day_number(d: Day) -> u64
     ensures { result ≡ day_number (day_of d) }
 {
-    let years = years_days(one_less(d.year));
-    let months = months_days(d.year, one_less(d.month as u16) as u8);
-    years + months + d.day as u64
+    let years = years_days(d.year.saturating_sub(1));
+    let months = months_days(d.year, d.month.saturating_sub(1));
+    years + months + u64::from(d.day)
 }
 
 // What the date d of execution is, of a file made on the day `made`.
+#[tactic(auto, using(crate::proofs::Laws::number_most), unfolding(document::specs::Calendar::date_case, document::specs::Calendar::not_too_early, document::specs::Calendar::not_too_late))]
 pub fn date_case(made: Day, d: Day) -> DateCase
     ensures { result ≡ case_from (date_case (day_of made) (day_of d)) }
 {
@@ -141,6 +111,7 @@ fn full_year(n: u64) -> u16
 }
 
 // The day that the last six digits of n name.
+#[tactic(auto, unfolding(document::specs::Calendar::of_ddmmyy))]
 pub fn of_ddmmyy(n: u64) -> Day
     ensures { result ≡ day_from (of_ddmmyy (n % 10 ^ 6)) }
 {
@@ -153,6 +124,7 @@ pub fn of_ddmmyy(n: u64) -> Day
 }
 
 // The day that the last eight digits of n name.
+#[tactic(auto, unfolding(document::specs::Calendar::of_ddmmyyyy))]
 pub fn of_ddmmyyyy(n: u64) -> Day
     ensures { result ≡ day_from (of_ddmmyyyy (n % 10 ^ 8)) }
 {

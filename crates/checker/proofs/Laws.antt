@@ -6,6 +6,7 @@
 use Prim.Native.Nat.{ℕ, zero, suc, ◌+◌}
 use mathlib.Core.Path.{◌≡◌, refl, sym, ap, ◌∙◌}
 use mathlib.Core.List.{List, [], ◌∷◌}
+use Rattle.std.specs.Prelude.{Ok, Err}
 use borrow.Author.Tests.{eq-eqb, ne_eqb}
 use Rattle.form.specs.Kind.{digits}
 use Rattle.form.specs.Form.{Form, ret, ◌>>=◌}
@@ -17,35 +18,29 @@ use Rattle.document.specs.Rules.{most_payments}
 use Rattle.document.proofs.SumLaws.{together_none, together_nothing, together_more}
 use Rattle.diskette.specs.Fields.{Name, header, payment, end, first_field, payments, behind_header, document}
 use Rattle.fields.specs.declared.Refusal.{Refusal}
-use Rattle.fields.specs.declared.Passed.{Passed}
-use Rattle.fields.specs.declared.Passed.TheVariants as passed
-use Rattle.fields.specs.Answers.{of_read, passings, passed_why}
-use Rattle.fields.proofs.WalkLaws.{Told, Fails, Walk, start, past_ruled, stopped_ruled, halts, retold}
-use Rattle.fields.proofs.AnswerLaws.{zero_one, passings_told, passed_form}
+use Rattle.fields.specs.Answers.{Reading, of_read, passings}
+use Rattle.fields.proofs.WalkLaws.{Fails, Walk, start, past_ruled, stopped_ruled, halts, retold}
+use Rattle.fields.proofs.AnswerLaws.{passed_form}
 use Rattle.checker.specs.declared.FileRead.{FileRead}
-use Rattle.checker.specs.declared.FileRead.TheVariants as file
-use Rattle.checker.specs.Checking.{file_of, files, file_why, rest_on}
+use Rattle.checker.specs.Checking.{file_of, files, rest_on}
 
 -- ---- the whole file
 
 -- all that is owed of the file that begins at p
-abbrev pub owed : List ℕ → ℕ → FileRead
+abbrev pub owed : List ℕ → ℕ → Reading FileRead
 owed f p = of_read files (read_at document f p)
 
 pub from_the_start : (f : List ℕ) (p : ℕ) → Walk files f (owed f p) (header >>= behind_header) p
 unfolding document
 from_the_start f p = start (header >>= behind_header) p
 
-pub files_told : Told files file_why
-files_told = record { apart = λ v q x e. zero_one cc; same = λ x. refl }
-
 -- ---- from A to the payments
 
-pub behind_header_lem : (f : List ℕ) (h : Header) {g : FileRead} {q : ℕ} → Walk files f g (behind_header h) q
+pub behind_header_lem : (f : List ℕ) (h : Header) {g : Reading FileRead} {q : ℕ} → Walk files f g (behind_header h) q
     → Walk (rest_on no_totals) f g (payments most_payments h.file_kind no_totals) q
 behind_header_lem f h w =
     retold files (rest_on no_totals) (payments most_payments h.file_kind no_totals) (λ ps. record { header = h; payments = ps })
-    (λ ps q. ap (λ t. file_of t q) (sym (together_none (totals ps)))) (λ x. refl) w
+    (λ ps q. ap (λ t. file_of t q) (sym (together_none (totals ps)))) w
 
 -- ---- the first field after A or a payment
 
@@ -53,8 +48,8 @@ behind_header_lem f h w =
 abbrev pub behind_payment : List ℕ → Totals → ℕ → Payment → Form Name (List Payment)
 behind_payment kind t left x = payments left kind (adding t x) >>= λ ps. ret (x ∷ ps)
 
-module _ {f : List ℕ} {g : FileRead} {p : ℕ} (kind : List ℕ) (t : Totals) where
-  pub first_fails : (left : ℕ) → Walk (rest_on t) f g (payments left kind t) p → {r : Refusal} → Fails (field_at (digits 4) (first_field t) f p) p r → file.Refused r ≡ g
+module _ {f : List ℕ} {g : Reading FileRead} {p : ℕ} (kind : List ℕ) (t : Totals) where
+  pub first_fails : (left : ℕ) → Walk (rest_on t) f g (payments left kind t) p → {r : Refusal} → Fails (field_at (digits 4) (first_field t) f p) p r → Err r ≡ g
   unfolding payments
   first_fails zero w x = stopped_ruled w x
   first_fails (suc left) w x = stopped_ruled w x
@@ -74,11 +69,11 @@ module _ {f : List ℕ} {g : FileRead} {p : ℕ} (kind : List ℕ) (t : Totals) 
 
 -- ---- a payment
 
-pub payment_more : {f : List ℕ} {g : FileRead} {q : ℕ} (kind : List ℕ) (t : Totals) (left : ℕ) (x : Payment)
+pub payment_more : {f : List ℕ} {g : Reading FileRead} {q : ℕ} (kind : List ℕ) (t : Totals) (left : ℕ) (x : Payment)
     → Walk (rest_on t) f g (behind_payment kind t left x) q → Walk (rest_on (adding t x)) f g (payments left kind (adding t x)) q
 payment_more {f} kind t left x w =
     retold (rest_on t) (rest_on (adding t x)) (payments left kind (adding t x)) (λ ps. x ∷ ps)
-    (λ ps q. ap (λ u. file_of u q) (together_more t x ps)) (λ r. refl) w
+    (λ ps q. ap (λ u. file_of u q) (together_more t x ps)) w
 
 -- ---- E
 
@@ -86,16 +81,15 @@ end_says_nothing : (t : Totals) (f : List ℕ) (p q : ℕ) (ps : List Payment) �
 end_says_nothing t f p q ps e = sym (read_filled (end t) f p q ps e).1
 
 module _ (f : List ℕ) (t : Totals) (p : ℕ) where
-  pub end_refused : {a : Passed} {x r : Refusal} → a ≡ of_read passings (read_at (end t) f p) → a ≡ passed.Refused x → r ≡ passed_why a
-      → file.Refused r ≡ of_read (rest_on t) (read_at (end t) f p)
+  pub end_refused : {r : Refusal} → ◌≡◌ {A = Reading ℕ} (Err r) (of_read passings (read_at (end t) f p)) → Err r ≡ of_read (rest_on t) (read_at (end t) f p)
   unfolding of_read
-  end_refused told given e =
-      let h = halts passings_told (read_at (end t) f p) told given e in
-      ap file.Refused h.2 ∙ ap (of_read (rest_on t)) (sym h.1)
+  end_refused told =
+      let h = halts passings (read_at (end t) f p) told refl in
+      rw (h.2) (ap (of_read (rest_on t)) (sym h.1))
 
-  pub end_read : {a : Passed} {q : ℕ} → a ≡ of_read passings (read_at (end t) f p) → a ≡ passed.To q → file_of t q ≡ of_read (rest_on t) (read_at (end t) f p)
+  pub end_read : {q : ℕ} → ◌≡◌ {A = Reading ℕ} (Ok q) (of_read passings (read_at (end t) f p)) → Ok (file_of t q) ≡ of_read (rest_on t) (read_at (end t) f p)
   unfolding of_read
-  end_read {a} {q} told given =
-      let x = passed_form (read_at (end t) f p) told given in
+  end_read {q} told =
+      let x = passed_form (read_at (end t) f p) told refl in
       let e : read_at (end t) f p ≡ done [] q = x.1 ∙ ap (λ ps. done ps q) (end_says_nothing t f p q x.0 x.1) in
-      ap (λ u. file_of u q) (sym (together_nothing t)) ∙ ap (of_read (rest_on t)) (sym e)
+      ap (λ u. Ok (file_of u q)) (sym (together_nothing t)) ∙ ap (of_read (rest_on t)) (sym e)

@@ -7,6 +7,7 @@ use Prim.Native.Nat.{ℕ, ◌≤◌}
 use native.Mathlib.Omega.{arith}
 use mathlib.Core.Path.{◌≡◌, sym, ap, subst, ◌∙◌}
 use mathlib.Core.Logic.{◌↔◌}
+use Rattle.std.specs.Prelude.{Ok}
 use mathlib.Core.List.{List, ◌∷◌, ◌++◌}
 use lib.ListN.{length, drop, length-append, length-drop}
 use lib.Dec.{T}
@@ -25,12 +26,11 @@ use Rattle.diskette.proofs.LayoutLaws.{end_length}
 use Rattle.diskette.proofs.FileSays.{document_says}
 use Rattle.diskette.proofs.Promises.{RefusedFile, zero_exactly, accepted_place, else_refused, totals_are, no_totals_lem}
 use Rattle.diskette.proofs.Promises as form
-use Rattle.fields.specs.Answers.{of_read}
+use Rattle.fields.specs.Answers.{Reading, of_read}
 use Rattle.sums.specs.declared.Sums.{Sums}
 use Rattle.sums.specs.Sums.{sums_of}
 use Rattle.checker.specs.declared.Checked.{Checked}
 use Rattle.checker.specs.declared.FileRead.{FileRead}
-use Rattle.checker.specs.declared.FileRead.TheVariants as file
 use Rattle.checker.specs.Checking.{checked_of, files}
 use Rattle.checker.proofs.CheckLaws.{was_read}
 
@@ -75,8 +75,12 @@ module _ (f : List ℕ) (r : Checked) (says : Says f r) where
 -- ---- one file, wherever it stands
 
 -- what `file_at` ensures of its result for the file f and the place p
-abbrev SaysOf : List ℕ → ℕ → FileRead → Type 0
+abbrev SaysOf : List ℕ → ℕ → Reading FileRead → Type 0
 SaysOf f p r = r ≡ of_read files (read_at document f p)
+
+-- so many payments that come to t, and q behind E
+abbrev read_as : ℕ → Sums → ℕ → FileRead
+read_as n t q = record { count = n; sums = t; end = q }
 
 -- a legal document, written out from p to q
 pub record StandsAt (f : List ℕ) (p q : ℕ) (d : Document) : Type 0 where
@@ -88,15 +92,15 @@ pub record StandsAt (f : List ℕ) (p q : ℕ) (d : Document) : Type 0 where
 starts_inside : (f : List ℕ) (p q : ℕ) (d : Document) → drop p f ≡ write d ++ drop q f → p ≤ length f
 starts_inside f p q d e = let l = simp (length-drop, length-append) at (ap length e) in let h = end_length (totals d.payments) in omega arith
 
-module _ (f : List ℕ) (p : ℕ) (r : FileRead) (says : SaysOf f p r) where
+module _ (f : List ℕ) (p : ℕ) (r : Reading FileRead) (says : SaysOf f p r) where
   -- a document was read from p on, the count and the sums are those of its payments, and its E ends at q
-  pub file_read : {n q : ℕ} {t : Sums} → r ≡ file.Is n t q
+  pub file_read : {n q : ℕ} {t : Sums} → r ≡ Ok (read_as n t q)
       → (d : Document) × (read_at document f p ≡ done d q) × (n ≡ (totals d.payments).count) × (t ≡ sums_of (totals d.payments))
   file_read given = was_read f p says given
 
   -- count, sums and the place behind E are given exactly where a legal document stands, written out
   pub file_read_exactly : (n q : ℕ) (t : Sums)
-      → (r ≡ file.Is n t q) ↔ ((d : Document) × StandsAt f p q d × (n ≡ (totals d.payments).count) × (t ≡ sums_of (totals d.payments)))
+      → (r ≡ Ok (read_as n t q)) ↔ ((d : Document) × StandsAt f p q d × (n ≡ (totals d.payments).count) × (t ≡ sums_of (totals d.payments)))
   unfolding of_read
   file_read_exactly n q t = (
     λ given.

@@ -1,16 +1,18 @@
 -- A line byte by byte: its tabs part its fields, it begins with a letter and a tab, a field may end in a blank; and the rest of a line of a
 -- listing, where the fields so far and those from there on make up all fields.
--- Two loops count fields, from tab to tab and byte by byte, and both keep the same sum: the fields counted, the last of them just begun, and the
--- fields of what stands from the place looked at on are all fields and one more (`Counting`, `Resting`). A tab adds a field to the first and
--- takes one off the second, any other byte changes neither (`count_more`, `rest_tab`, `rest_on_lem`), and at the end one field is left of the
--- second. The laws of the first two bytes and of the last are by looking at them.
+-- The loop over the rest of a line counts its fields byte by byte, and keeps this sum: the fields counted, the last of them just begun, and the
+-- fields of what stands from the place looked at on are all fields and one more (`Resting`). A tab adds a field to the first and takes one off
+-- the second, any other byte changes neither (`rest_tab`, `rest_on_lem`), and at the end one field is left of the second. The laws of the first
+-- two bytes and of the last are by looking at them.
+use Rattle.std.specs.List.{count_by}
+use Rattle.std.proofs.lemmas.List.Recursion.{is_count_by}
 use Prim.Native.Nat.{ℕ, suc, ◌+◌, ◌-◌, ◌≤◌, ◌<◌, zero}
 use native.Mathlib.Omega.{arith}
 use native.Mathlib.Decide.{dec_lt}
 use mathlib.Core.Path.{◌≡◌, refl, ap, ◌∙◌}
-use mathlib.Core.Bool.{Bool, true, false, ◌&&◌, and-true}
+use mathlib.Core.Bool.{Bool, true, false, ◌&&◌, and-true, cond}
 use mathlib.Core.List.{List, [], ◌∷◌}
-use lib.ListN.{length, drop, get_or, length-drop, take, drop_of_length-le}
+use lib.ListN.{length, drop, get_or, take, drop_of_length-le}
 use lib.Dec.{eqb}
 use lib.Seq.{drop-cons, get_or-take, get_or-drop, length-take-le}
 use borrow.Author.Tests.{eqb-true, eqb-false, eq-eqb, ne_eqb}
@@ -19,40 +21,29 @@ use Rattle.listing.specs.Lines.{tab, split, ends_in_blank, line_end, onto}
 use Rattle.layout.specs.Lines as line
 use Rattle.layout.specs.Cells.{letter_of}
 use Rattle.line_reader.specs.Reaching.{reach}
-use Rattle.line_reader.proofs.ReachLaws.{reach_le, pieces_more, pieces_last, reach_here, reach_on, reach_end}
+use Rattle.line_reader.proofs.ReachLaws.{reach_le, reach_here, reach_on, reach_end}
 use Rattle.composer.proofs.WalkLaws.{begins, at_begun}
 use Rattle.listing.proofs.LineLaws.{Some, some, split_some}
 
 -- ---- how many fields
 
--- so many fields begin up to place q, and the last of them ends at e
-pub record Counting (x : List ℕ) (e fields : ℕ) : Type 0 where
-  pub q : ℕ
-  pub inside : q ≤ length x
-  pub ends : e ≡ q + reach tab (drop q x)
-  pub few : fields ≤ q + 1
-  pub all : length (split tab x) + 1 ≡ fields + length (split tab (drop q x))
+onto_length : (b : ℕ) (r : List (List ℕ)) → Some r → length (onto b r) ≡ length r
+onto_length b r (some t ts) = refl
 
-pub count_first : (x : List ℕ) (e : ℕ) → e ≡ 0 + reach tab (drop 0 x) → Counting x e 1
-count_first x e r = record { q = 0; inside = omega arith; ends = r; few = omega arith; all = omega arith }
+-- each tab has a field behind it
+pub fields_by_tabs : (z : ℕ) (l : List ℕ) → length (split z l) ≡ 1 + count_by (λ b. eqb b z) l
+unfolding split
+fields_by_tabs z l = from_one (split_some z l) (is_count_by (λ m. length (split z m) - 1) (λ b. eqb b z) refl step l)
+  where
+    from_one : {r : List (List ℕ)} {n : ℕ} → Some r → length r - 1 ≡ n → length r ≡ 1 + n
+    from_one (some t ts) e = omega arith
 
-module _ {x : List ℕ} {e fields : ℕ} (w : Counting x e fields) where
-  pub count_inside : (fields ≤ e + 1) × (e ≤ length x)
-  count_inside = (omega (arith, w.few, w.ends), omega (arith, w.ends, w.inside, reach_le tab (drop w.q x), length-drop w.q x))
-
-  far : e - w.q ≡ reach tab (drop w.q x)
-  far = omega (arith, w.ends)
-
-  pub count_more : e < length x → (d : ℕ) → d ≡ e + 1 + reach tab (drop (e + 1) x) → Counting x d (fields + 1)
-  count_more h d r =
-      let m = ap length (pieces_more tab x w.q (e - w.q) far (omega (arith, w.ends))) in
-      let n : w.q + suc (e - w.q) ≡ e + 1 = omega (arith, w.ends) in
-      record { q = e + 1; inside = omega arith; ends = r; few = omega (arith, count_inside); all = omega (arith, w.all, rw n at m) }
-
-  pub count_last : length x ≤ e → fields ≡ length (split tab x)
-  count_last h =
-      let m = ap length (pieces_last tab x w.q (e - w.q) far (omega (arith, w.ends, count_inside))) in
-      omega (arith, w.all, m)
+    step : (b : ℕ) (bs : List ℕ) → length (split z (b ∷ bs)) - 1 ≡ cond (eqb b z) (1 + (length (split z bs) - 1)) (length (split z bs) - 1)
+    step b bs = by (eqb b z) (split z bs) (split_some z bs)
+      where
+        by : (e : Bool) (r : List (List ℕ)) → Some r → length (cond e ([] ∷ r) (onto b r)) - 1 ≡ cond e (1 + (length r - 1)) (length r - 1)
+        by true r (some t ts) = omega arith
+        by false r h = ap (λ n. n - 1) (onto_length b r h)
 
 -- ---- the last byte
 
@@ -98,9 +89,6 @@ reach_behind z l p (suc m) h = by (dec_lt (p + m) (length l)) (eqb (get_or l (p 
         rw n (omega (arith, reach_on z l (p + m) g (eqb-false (get_or l (p + m) 0) z e)))
 
 -- ---- field after field
-
-onto_length : (b : ℕ) (r : List (List ℕ)) → Some r → length (onto b r) ≡ length r
-onto_length b r (some t ts) = refl
 
 -- the line from p on
 abbrev pub rest_from : List ℕ → ℕ → List ℕ

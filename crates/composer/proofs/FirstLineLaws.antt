@@ -10,6 +10,7 @@ use native.Mathlib.Nat.{zero-add}
 use mathlib.Core.Path.{◌≡◌, refl, sym, ap, ap₂, ◌∙◌, subst}
 use mathlib.Core.Logic.{◌≢◌}
 use mathlib.Core.List.{List, [], ◌∷◌}
+use Rattle.std.specs.Prelude.{Ok, Err}
 use lib.ListN.{length, take, drop}
 use lib.Seq.{length-take-le}
 use Rattle.form.proofs.KindLaws.{length_zero}
@@ -18,12 +19,8 @@ use Rattle.document.specs.Values.{Header, Payment, Document, Totals, no_totals, 
 use Rattle.diskette.specs.Writing.{write_payments}
 use Rattle.fields.specs.declared.Refusal.{Refusal}
 use Rattle.fields.specs.declared.FileKind.{FileKind}
-use Rattle.fields.specs.declared.KindRead.{KindRead}
-use Rattle.fields.specs.declared.KindRead.TheVariants as kind
-use Rattle.fields.specs.Answers.{refusal_of, kind_of, letters_of, kind_why}
-use Rattle.fields.proofs.AnswerLaws.{zero_one}
+use Rattle.fields.specs.Answers.{Reading, refusal_of, kind_of, letters_of}
 use Rattle.header.proofs.Laws.{letters_among}
-use Rattle.sums.specs.Sums.{sums_of}
 use Rattle.document.proofs.SumLaws.{together_none}
 use Rattle.listing.specs.Lines.{tab, line_end, split, empty}
 use Rattle.listing.specs.Composing.{Composed, made, denied, and_then, compose_header, compose_payments, compose_lines, compose}
@@ -33,14 +30,16 @@ use Rattle.listing.proofs.HeaderLaws.{header_heard}
 use Rattle.listing.proofs.LinesLaws.{lines_step}
 use Rattle.line_reader.specs.Reaching.{reach}
 use Rattle.line_reader.proofs.ReachLaws.{reach_le, split_more, split_last}
-use Rattle.composer.specs.declared.LinesRead.{LinesRead}
-use Rattle.composer.specs.declared.LinesRead.TheVariants as lines
-use Rattle.composer.specs.Telling.{head_told, payments_told, listing_told}
+use Rattle.composer.specs.declared.Listed.{Listed}
+use Rattle.composer.specs.Telling.{listed_of, head_told, payments_told, listing_told}
 use Rattle.composer.proofs.StepLaws.{not_empty}
 use Rattle.composer.proofs.ReadingLaws.{owed}
 
+same_refusal : {x y : Refusal} → ◌≡◌ {A = Reading FileKind} (Err x) (Err y) → ◌≡◌ {A = Reading Listed} (Err x) (Err y)
+same_refusal {x} {y} e = let i : x ≡ y = cc in ap (λ z. Err z) i
+
 told_of : (h : Header) (c : Composed (List Payment)) → listing_told (and_then c (λ ps. made (record { header = h; payments = ps }))) ≡ payments_told no_totals 0 c
-told_of h (made ps) = ap₂ (λ (u : Totals) (n : ℕ). lines.Are u.count (sums_of u) n) (sym (together_none (totals ps))) (sym (zero-add (length (write_payments ps))))
+told_of h (made ps) = ap₂ (λ (u : Totals) (n : ℕ). Ok (listed_of u n)) (sym (together_none (totals ps))) (sym (zero-add (length (write_payments ps))))
 told_of h (denied v) = refl
 
 module _ (l : List ℕ) (e : ℕ) (ends : e ≡ 0 + reach line_end l) where
@@ -52,13 +51,13 @@ module _ (l : List ℕ) (e : ℕ) (ends : e ≡ 0 + reach line_end l) where
     one_piece : split line_end l ≡ l ∷ []
     one_piece = split_last line_end l (omega arith)
 
-    pub listing_none : e ≡ 0 → {r : Refusal} → r ≡ refusal_of 18 0 → lines.Refused r ≡ listing_told (compose l)
+    pub listing_none : e ≡ 0 → {r : Refusal} → r ≡ refusal_of 18 0 → Err r ≡ listing_told (compose l)
     unfolding compose compose_lines
-    listing_none n w = ap lines.Refused w ∙ sym (ap (λ xs. listing_told (compose_lines xs)) (one_piece ∙ ap (λ x. x ∷ []) (length_zero l (omega arith))))
+    listing_none n w = ap (λ x. Err x) w ∙ sym (ap (λ xs. listing_told (compose_lines xs)) (one_piece ∙ ap (λ x. x ∷ []) (length_zero l (omega arith))))
 
-    pub listing_cut : e ≢ 0 → {r : Refusal} → r ≡ refusal_of 17 0 → lines.Refused r ≡ listing_told (compose l)
+    pub listing_cut : e ≢ 0 → {r : Refusal} → r ≡ refusal_of 17 0 → Err r ≡ listing_told (compose l)
     unfolding compose compose_lines
-    listing_cut n w = ap lines.Refused w ∙ sym (ap (λ xs. listing_told (compose_lines xs)) one_piece ∙ rw (not_empty l (omega (arith, n))))
+    listing_cut n w = ap (λ x. Err x) w ∙ sym (ap (λ xs. listing_told (compose_lines xs)) one_piece ∙ rw (not_empty l (omega (arith, n))))
 
     no_document : (d : Document) → compose l ≡ made d → ⊥
     unfolding compose compose_lines
@@ -93,26 +92,26 @@ module _ (l : List ℕ) (e : ℕ) (ends : e ≡ 0 + reach line_end l) where
         ∙ lines_step (take e l) (split line_end (drop (suc e) l)) (split_some line_end (drop (suc e) l))
         ∙ ap₂ (onward here) a b
 
-    module _ (n : ℕ) {a : KindRead} (told : a ≡ head_told n here) where
+    module _ {a : Reading FileKind} (told : a ≡ head_told here) where
       -- A is refused
-      pub listing_refused : {y r : Refusal} → a ≡ kind.Refused y → r ≡ kind_why a → lines.Refused r ≡ listing_told (compose l)
-      listing_refused {y} {r} given w = by here refl (sym told ∙ given)
+      pub listing_refused : {r : Refusal} → a ≡ Err r → Err r ≡ listing_told (compose l)
+      listing_refused {r} given = by here refl (sym told ∙ given)
         where
-          by : (c : Composed Header) → here ≡ c → head_told n c ≡ kind.Refused y → lines.Refused r ≡ listing_told (compose l)
-          by (made h) i g = absurd (zero_one cc)
-          by (denied v) i g = ap lines.Refused (w ∙ ap kind_why (given ∙ sym g)) ∙ sym (ap listing_told (step ∙ ap (λ c. onward c (e + 1) (e + 1)) i))
+          by : (c : Composed Header) → here ≡ c → head_told c ≡ Err r → Err r ≡ listing_told (compose l)
+          by (made h) i g = absurd cc
+          by (denied v) i g = same_refusal (sym g) ∙ sym (ap listing_told (step ∙ ap (λ c. onward c (e + 1) (e + 1)) i))
 
       -- A is read
-      pub listing_read : {k : FileKind} {q : ℕ} → a ≡ kind.Is k q → {r : LinesRead} → r ≡ owed l (letters_of k) no_totals 0 (e + 1) → r ≡ listing_told (compose l)
-      listing_read {k} {q} given {r} w = by here refl (sym told ∙ given)
+      pub listing_read : {k : FileKind} → a ≡ Ok k → {r : Reading Listed} → r ≡ owed l (letters_of k) no_totals 0 (e + 1) → r ≡ listing_told (compose l)
+      listing_read {k} given {r} w = by here refl (sym told ∙ given)
         where
-          by : (c : Composed Header) → here ≡ c → head_told n c ≡ kind.Is k q → r ≡ listing_told (compose l)
+          by : (c : Composed Header) → here ≡ c → head_told c ≡ Ok k → r ≡ listing_told (compose l)
           by (made h) i g =
               let m : k ≡ kind_of h.file_kind = cc in
               let letters : letters_of k ≡ h.file_kind = ap letters_of m ∙ letters_among h.file_kind (header_heard (split tab (take e l)) h i).0.A3 in
               w ∙ ap (λ y. owed l y no_totals 0 (e + 1)) letters
               ∙ sym (ap listing_told (step ∙ ap (λ c. onward c (e + 1) (e + 1)) i) ∙ told_of h (compose_payments h.file_kind no_totals (e + 1) (split line_end (drop (e + 1) l))))
-          by (denied v) i g = absurd (zero_one cc)
+          by (denied v) i g = absurd cc
 
 -- ---- a listing that is accepted
 

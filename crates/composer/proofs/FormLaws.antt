@@ -70,35 +70,39 @@ all_fields x = by (split tab x) (split_some tab x)
     by : (ts : List (List ℕ)) → Some ts → length ts ≡ suc (length (behind_letter ts))
     by ts (some u us) = refl
 
--- field i of a line of n fields stands at q
+-- field i of a line of n fields, if there is one, stands at q
 pub record Stand (head : Bool) (n : ℕ) (x : List ℕ) (i q : ℕ) : Type 0 where
   pub few : n ≤ length (cells_of head)
   pub all : length (fields_of x) ≡ n
-  pub before : i < n
-  pub at : At x (fields_of x) i q
+  pub at : i < n → At x (fields_of x) i q
 
 module _ {head : Bool} {n : ℕ} {x : List ℕ} {i q : ℕ} (w : Stand head n x i q) where
+  -- behind the last field neither a cell nor a field is left
+  no_more : n ≤ i → (drop i (take n (cells_of head)) ≡ []) × (drop i (fields_of x) ≡ [])
+  no_more h =
+      let all = w.all in (
+        drop_of_length-le (take n (cells_of head)) {i = i} (omega (arith, length-take-le n (cells_of head) w.few)),
+        drop_of_length-le (fields_of x) {i = i} (omega arith),
+      )
+
+module _ {head : Bool} {n : ℕ} {x : List ℕ} {i q : ℕ} (w : Stand head n x i q) (before : i < n) where
   -- field i ends at e
   pub stand_ends : (e : ℕ) → e ≡ q + reach tab (drop q x) → (q ≤ e) × (e ≤ length x)
-  stand_ends e r = let f = at_field e w.at r in (f.0, f.1)
+  stand_ends e r = let f = at_field e (w.at before) r in (f.0, f.1)
 
-  pub stand_more : (e : ℕ) → e ≡ q + reach tab (drop q x) → (i + 1 ≡ n → ⊥) → (e < length x) × Stand head n x (i + 1) (e + 1)
-  stand_more e r h =
-      let a = at_next e w.at r (omega arith) in
-      (a.0, record { few = w.few; all = w.all; before = omega arith; at = a.1 })
+  stand_more : (e : ℕ) → e ≡ q + reach tab (drop q x) → Stand head n x (i + 1) (e + 1)
+  stand_more e r =
+      let all = w.all in
+      record { few = w.few; all = w.all; at = λ more. (at_next e (w.at before) r (omega arith)).1 }
 
   -- the cell of field i is c
   stand_here : (e : ℕ) → e ≡ q + reach tab (drop q x) → (c : CodeCell) → c ≡ cell_at head i
       → (a : Cell) × (cell_of (some a) ≡ c) × (drop i (take n (cells_of head)) ≡ a ∷ drop (i + 1) (take n (cells_of head)))
       × (drop i (fields_of x) ≡ take (e - q) (drop q x) ∷ drop (i + 1) (fields_of x))
   stand_here e r c is =
-      let a = first_of_lem (cells_of head) n i w.before w.few in
-      let f = from_there (fields_of x) i (take (e - q) (drop q x)) (at_field e w.at r).2 in
+      let a = first_of_lem (cells_of head) n i before w.few in
+      let f = from_there (fields_of x) i (take (e - q) (drop q x)) (at_field e (w.at before) r).2 in
       rw (add-one i) (a.0, ap cell_of (sym a.1) ∙ sym is, a.2, f)
-
-  -- behind the last field no cell is left
-  no_more : i + 1 ≡ n → drop (i + 1) (take n (cells_of head)) ≡ []
-  no_more h = drop_of_length-le (take n (cells_of head)) {i = i + 1} (omega (arith, length-take-le n (cells_of head) w.few))
 
 -- no line has more fields than that of a payment with the most parts
 pub cells_few : (head : Bool) → length (cells_of head) ≤ fields_with most_parts
@@ -127,16 +131,16 @@ module _ (head : Bool) (n : ℕ) (x : List ℕ) (pre : (0 < n) × (n ≤ length 
   pub form_first : length (split tab x) ≡ n + 1 → begins head x ≡ true → Forming head n x 0 line.first
   form_first l b =
       record {
-        stand = record { few = pre.1; all = omega (arith, all_fields x); before = pre.0; at = at_begun head x b };
+        stand = record { few = pre.1; all = omega (arith, all_fields x); at = λ some. at_begun head x b };
         rest = rw (letter_parted head x b, is_true (same (letter_of head) (letter_of head)) (same_self (letter_of head)));
       }
 
 -- field i has the form that the cell c asks for, or not
-module _ {head : Bool} {n : ℕ} {x : List ℕ} {i q : ℕ} (w : Forming head n x i q) (e : ℕ) (r : e ≡ q + reach tab (drop q x))
+module _ {head : Bool} {n : ℕ} {x : List ℕ} {i q : ℕ} (w : Forming head n x i q) (before : i < n) (e : ℕ) (r : e ≡ q + reach tab (drop q x))
     (c : CodeCell) (is : c ≡ cell_at head i) where
   form_here : (b : Bool) → b ≡ formed_as c (take (e - q) (drop q x)) → line_formed head n (split tab x) ≡ b && formed_from head n x (i + 1)
   form_here b h =
-      let a = stand_here w.stand e r c is in
+      let a = stand_here w.stand before e r c is in
       let t = take (e - q) (drop q x) in
       let k : field_formed (a.0).kind t ≡ b = formed_as_lem a.0 t ∙ ap (λ (d : CodeCell). formed_as d t) a.1 ∙ sym h in
       w.rest ∙ rw (a.2, a.3, k)
@@ -144,14 +148,12 @@ module _ {head : Bool} {n : ℕ} {x : List ℕ} {i q : ℕ} (w : Forming head n 
   pub form_not : false ≡ formed_as c (take (e - q) (drop q x)) → false ≡ line_formed head n (split tab x)
   form_not h = sym (form_here false h)
 
-  pub form_more : true ≡ formed_as c (take (e - q) (drop q x)) → (i + 1 ≡ n → ⊥) → Forming head n x (i + 1) (e + 1)
-  form_more h m = record { stand = (stand_more w.stand e r m).1; rest = form_here true h }
+  pub form_more : true ≡ formed_as c (take (e - q) (drop q x)) → Forming head n x (i + 1) (e + 1)
+  form_more h = record { stand = stand_more w.stand before e r; rest = form_here true h }
 
-  pub form_last : true ≡ formed_as c (take (e - q) (drop q x)) → i + 1 ≡ n → true ≡ line_formed head n (split tab x)
-  form_last h m =
-      let j : length (fields_of x) ≤ i + 1 = omega arith in
-      let z : formed_from head n x (i + 1) ≡ true = rw (no_more w.stand m, drop_of_length-le (fields_of x) j) in
-      sym (form_here true h ∙ z)
+-- all fields have their form
+pub form_all : {head : Bool} {n : ℕ} {x : List ℕ} {i q : ℕ} → Forming head n x i q → n ≤ i → true ≡ line_formed head n (split tab x)
+form_all w h = let none = no_more w.stand h in sym (w.rest ∙ rw (none.0, none.1))
 
 -- ---- where a field of the record stands
 
@@ -166,16 +168,16 @@ pub record Seeking (head : Bool) (n : ℕ) (x : List ℕ) (p i q : ℕ) : Type 0
 
 pub place_first : (head : Bool) (n : ℕ) (x : List ℕ) (p : ℕ) → FormedLine head n x → Seeking head n x p 0 line.first
 place_first head n x p f =
-    record { stand = record { few = f.1.0; all = formed_count head n x f; before = f.0; at = at_first head n x f }; rest = refl }
+    record { stand = record { few = f.1.0; all = formed_count head n x f; at = λ some. at_first head n x f }; rest = refl }
 
 -- field i is the one at c's place, or not
-module _ {head : Bool} {n : ℕ} {x : List ℕ} {p i q : ℕ} (w : Seeking head n x p i q) (c : CodeCell) (is : c ≡ cell_at head i) where
+module _ {head : Bool} {n : ℕ} {x : List ℕ} {p i q : ℕ} (w : Seeking head n x p i q) (before : i < n) (c : CodeCell) (is : c ≡ cell_at head i) where
   seek : (e : ℕ) → e ≡ q + reach tab (drop q x) → (b : Bool) → eqb p c.place ≡ b
       → place_in head n (split tab x) p ≡ cond b q (place_from head n x p (i + 1) (e + 1))
   seek e r b h =
-      let a = stand_here w.stand e r c is in
+      let a = stand_here w.stand before e r c is in
       let t = take (e - q) (drop q x) in
-      let f = stand_ends w.stand e r in
+      let f = stand_ends w.stand before e r in
       let l : length t ≡ e - q = length-take-le (e - q) (drop q x) (omega (arith, length-drop q x)) in
       let k : q + suc (length t) ≡ e + 1 = omega arith in
       let g : eqb p (a.0).place ≡ b = ap (λ (d : CodeCell). eqb p d.place) a.1 ∙ h in
@@ -184,11 +186,9 @@ module _ {head : Bool} {n : ℕ} {x : List ℕ} {p i q : ℕ} (w : Seeking head 
   pub place_here : p ≡ c.place → q ≡ place_in head n (split tab x) p
   place_here h = sym (seek (q + reach tab (drop q x)) refl true (eq-eqb p c.place h))
 
-  pub place_more : (p ≡ c.place → ⊥) → (i + 1 ≡ n → ⊥) → (e : ℕ) → e ≡ q + reach tab (drop q x) → Seeking head n x p (i + 1) (e + 1)
-  place_more h m e r = record { stand = (stand_more w.stand e r m).1; rest = seek e r false (ne_eqb p c.place h) }
+  pub place_more : (p ≡ c.place → ⊥) → (e : ℕ) → e ≡ q + reach tab (drop q x) → Seeking head n x p (i + 1) (e + 1)
+  place_more h e r = record { stand = stand_more w.stand before e r; rest = seek e r false (ne_eqb p c.place h) }
 
-  pub place_none : (p ≡ c.place → ⊥) → i + 1 ≡ n → 0 ≡ place_in head n (split tab x) p
-  place_none h m =
-      let e = q + reach tab (drop q x) in
-      let z : place_from head n x p (i + 1) (e + 1) ≡ 0 = rw (no_more w.stand m) in
-      sym (seek e refl false (ne_eqb p c.place h) ∙ z)
+-- no field is the one of place p
+pub place_none : {head : Bool} {n : ℕ} {x : List ℕ} {p i q : ℕ} → Seeking head n x p i q → n ≤ i → 0 ≡ place_in head n (split tab x) p
+place_none w h = sym (w.rest ∙ rw (no_more w.stand h).0)

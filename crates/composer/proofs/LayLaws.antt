@@ -10,7 +10,6 @@ use mathlib.Core.List.{List, [], ◌∷◌, ◌++◌}
 use mathlib.Core.Option.{some}
 use lib.ListN.{length, take, drop, get_elem?, length-replicate}
 use Rattle.form.specs.Kind.{Kind, width, blanks}
-use Rattle.fields.proofs.AnswerLaws.{zero_one}
 use Rattle.listing.specs.Records.{Piece, own, told, pad, lay, Cell, cells}
 use Rattle.listing.proofs.LineLaws.{pad_length}
 use Rattle.listing.proofs.RecordLaws.{span, lay_length}
@@ -60,7 +59,7 @@ first p κ ps bs t ts fills = record { offset = 0; place = omega arith; inside =
 
 step : (p : ℕ) (ps : List Piece) (ts : List (List ℕ)) (i : ℕ) (c : Cell) (bs t : List ℕ) → get_elem? (cells p ps) i ≡ some c → get_elem? ts i ≡ some t
     → Fills (width c.kind) bs t → Step p ps ts i c bs
-step p [] ts i c bs t e f fills = absurd (zero_one cc)
+step p [] ts i c bs t e f fills = absurd cc
 step p (own o ∷ ps) ts i c bs t e f fills =
     let s = step (p + length o) ps ts i c bs t e f fills in
     record {
@@ -69,7 +68,7 @@ step p (own o ∷ ps) ts i c bs t e f fills =
       inside = omega (arith, s.inside);
       put = further (length o) s.offset o bs _ _ refl s.put;
     }
-step p (told κ ∷ ps) [] i c bs t e f fills = absurd (zero_one cc)
+step p (told κ ∷ ps) [] i c bs t e f fills = absurd cc
 step p (told κ ∷ ps) (u ∷ us) zero c bs t e f fills =
     let x : record { place = p; kind = κ } ≡ c = cc in
     let y : t ≡ u = cc in

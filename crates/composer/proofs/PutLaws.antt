@@ -2,7 +2,7 @@
 -- The loop keeps `Layable`: the line has its form, field i stands at q, and the record has what is its own and the fields before i. Field i is
 -- no wider than its cell, because the line has its form, so there is room for it and it makes the record with one field more (`one_more`, by
 -- `lay_over`); the walk goes on behind its tab (`put_more`). The numbers of a payment stand at fixed places of the line and are put without that
--- walk (`put_number`). Copying one field byte by byte keeps `Copying`: i bytes of it are in the record, and no tab was among them.
+-- walk (`put_number`). Copying one field byte by byte keeps `Copying`: the bytes of it before i are in the record, and no tab was among them.
 use Prim.Native.Nat.{ℕ, suc, ◌+◌, ◌-◌, ◌≤◌, ◌<◌}
 use native.Mathlib.Numerals.{add-one}
 use native.Mathlib.Omega.{arith}
@@ -18,12 +18,12 @@ use Rattle.listing.specs.Lines.{tab}
 use Rattle.listing.specs.Records.{record_c, numbers_of_payment_line, fields_with, pad, lay, Cell, cells}
 use Rattle.listing.proofs.RecordLaws.{lay_length}
 use Rattle.layout.specs.declared.Cell.{Cell as CodeCell}
+use Rattle.output.proofs.WritingLaws.{Writing, writing_start, writing_more, writing_end}
 use Rattle.output.specs.Writing.{over, over_if_room}
 use Rattle.layout.specs.Lines as line
 use Rattle.layout.specs.Cells.{record_of, cell_of, cells_of, cell_at}
 use Rattle.line_reader.specs.Reaching.{reach}
 use Rattle.line_reader.proofs.ReachLaws.{reach_le, reach_on}
-use Rattle.output.proofs.WritingLaws.{Writing, writing_start, writing_more, writing_end}
 use Rattle.layout.proofs.CellLaws.{field_of_c, fields_of_c_lem, fields_first}
 use Rattle.composer.specs.Telling.{FormedLine}
 use Rattle.composer.specs.Writing.{Layable}
@@ -75,11 +75,11 @@ module _ {head : Bool} {k n : ℕ} {x out : List ℕ} {i q : ℕ} (h : Layable h
 
     -- field i ends at e
     module _ (e : ℕ) (r : e ≡ q + reach tab (drop q x)) where
-      pub put_inside : (i + 1 ≡ n → ⊥) → e < length x
-      put_inside l = (at_next e walk r (omega (arith, h.left, formed_count head n x h.line))).0
+      pub put_inside : (q ≤ e) × (e ≤ length x)
+      put_inside = let f = at_field e walk r in (f.0, f.1)
 
       module _ {new : List ℕ} (put : new ≡ over c.place (take (e - q) (drop q x)) out) where
-        one_more : new ≡ lay (record_of head k) (take (i + 1) (fields_of x))
+        pub one_more : new ≡ lay (record_of head k) (take (i + 1) (fields_of x))
         one_more =
             let t = take (e - q) (drop q x) in
             let a = cell in
@@ -93,15 +93,16 @@ module _ {head : Bool} {k n : ℕ} {x out : List ℕ} {i q : ℕ} (h : Layable h
             ∙ s
             ∙ ap (λ (m : ℕ). lay (record_of head k) (take m (fields_of x))) (sym (add-one i))
 
-        pub put_more : (i + 1 ≡ n → ⊥) → Layable head k n x new (i + 1) (e + 1)
-        put_more l =
-            let left : i + 1 < n = omega (arith, h.left) in
+        pub put_more : i + 1 < n → Layable head k n x new (i + 1) (e + 1)
+        put_more left =
             let w = (at_next e walk r (omega (arith, formed_count head n x h.line))).1 in
             record { line = h.line; cells = h.cells; left = left; inside = w.inside; here = w.here; laid = one_more }
 
-        pub put_ends : i + 1 ≡ n → new ≡ lay (record_of head k) (fields_of x)
-        put_ends l =
-            one_more ∙ ap (lay (record_of head k)) (take_all (i + 1) (fields_of x) (omega (arith, formed_count head n x h.line)))
+-- the fields before field i are put, and those are all
+pub put_all : (head : Bool) (k n : ℕ) (x : List ℕ) (i : ℕ) → FormedLine head n x → n ≤ i → {out : List ℕ} → out ≡ lay (record_of head k) (take i (fields_of x))
+    → out ≡ lay (record_of head k) (fields_of x)
+put_all head k n x i f h laid =
+    laid ∙ ap (lay (record_of head k)) (take_all i (fields_of x) (omega (arith, formed_count head n x f)))
 
 -- ---- the numbers of a payment
 
@@ -135,47 +136,50 @@ module _ {k : ℕ} {x old : List ℕ} (h : Layable false k (fields_with k) x old
 
 -- ---- a field byte by byte
 
--- i bytes of the field at q are in the record from p on
+-- the bytes of the field at q up to i are in the record from p on
 pub record Copying (x old : List ℕ) (q p : ℕ) (out : List ℕ) (i : ℕ) : Type 0 where
-  pub inside : q + i ≤ length x
-  pub ahead : reach tab (drop q x) ≡ i + reach tab (drop (q + i) x)
-  pub written : Writing old p (take (reach tab (drop q x)) (drop q x)) out i
+  pub on : q ≤ i
+  pub inside : i ≤ length x
+  pub ahead : q + reach tab (drop q x) ≡ i + reach tab (drop i x)
+  pub written : Writing old p (take (reach tab (drop q x)) (drop q x)) out (i - q)
 
-module _ (x : List ℕ) (q : ℕ) where
-  whole_field : length (take (reach tab (drop q x)) (drop q x)) ≡ reach tab (drop q x)
-  whole_field = length-take-le (reach tab (drop q x)) (drop q x) (reach_le tab (drop q x))
+whole_field : (x : List ℕ) (q : ℕ) → length (take (reach tab (drop q x)) (drop q x)) ≡ reach tab (drop q x)
+whole_field x q = length-take-le (reach tab (drop q x)) (drop q x) (reach_le tab (drop q x))
 
-  pub copy_start : (old : List ℕ) (p : ℕ) → q ≤ length x → p + reach tab (drop q x) ≤ length old → Copying x old q p old 0
-  copy_start old p h r =
-      let e : q + 0 ≡ q = omega arith in
+pub copy_start : (x : List ℕ) (q : ℕ) (old : List ℕ) (p : ℕ) → q ≤ length x → p + reach tab (drop q x) ≤ length old → Copying x old q p old q
+copy_start x q old p h r =
+    let e : q - q ≡ 0 = omega arith in
+    record {
+      on = omega arith;
+      inside = h;
+      ahead = refl;
+      written = rw e (writing_start old p (take (reach tab (drop q x)) (drop q x)) (omega (arith, whole_field x q)));
+    }
+
+module _ {x old out : List ℕ} {q p i : ℕ} (w : Copying x old q p out i) where
+  -- there is room for one byte more
+  pub copy_room : i < length x → (get_or x i 0 ≡ tab → ⊥) → p + (i - q) < length out
+  copy_room h n = omega (arith, reach_on tab x i h n, whole_field x q, w.on, w.ahead, w.written.room, w.written.long)
+
+  pub copy_more : i < length x → (get_or x i 0 ≡ tab → ⊥) → Copying x old q p (set out (p + (i - q)) (get_or x i 0)) (i + 1)
+  copy_more h n =
+      let on = w.on in
+      let next : i + 1 ≡ suc i = omega arith in
+      let long = whole_field x q in
+      let ahead : q + reach tab (drop q x) ≡ suc i + reach tab (drop (suc i) x) = omega (arith, reach_on tab x i h n, w.ahead) in
+      let k : i + 1 - q ≡ i - q + 1 = omega arith in
+      let there : q + (i - q) ≡ i = omega arith in
+      let b = get_or-take (reach tab (drop q x)) (drop q x) (i - q) 0 (omega arith) ∙ get_or-drop q x (i - q) 0 ∙ ap (λ m. get_or x m 0) there in
       record {
+        on = omega arith;
         inside = omega arith;
-        ahead = rw e (omega arith);
-        written = writing_start old p (take (reach tab (drop q x)) (drop q x)) (omega (arith, whole_field));
+        ahead = rw next ahead;
+        written = rw k (writing_more (p + (i - q)) (get_or x i 0) w.written (omega arith) refl (sym b));
       }
 
-  module _ {old out : List ℕ} {p i : ℕ} (w : Copying x old q p out i) where
-    -- there is room for one byte more
-    pub copy_room : q + i < length x → (get_or x (q + i) 0 ≡ tab → ⊥) → p + i < length out
-    copy_room h n =
-        let on = reach_on tab x (q + i) h n in
-        omega (arith, whole_field, w.ahead, w.written.room, w.written.long)
-
-    pub copy_more : q + i < length x → (get_or x (q + i) 0 ≡ tab → ⊥) → Copying x old q p (set out (p + i) (get_or x (q + i) 0)) (i + 1)
-    copy_more h n =
-        let l = whole_field in
-        let on = reach_on tab x (q + i) h n in
-        let e : q + (i + 1) ≡ suc (q + i) = omega arith in
-        let f : i < reach tab (drop q x) = omega (arith, w.ahead) in
-        let b = get_or-take (reach tab (drop q x)) (drop q x) i 0 f ∙ get_or-drop q x i 0 in
-        record {
-          inside = omega arith;
-          ahead = rw e (omega (arith, w.ahead));
-          written = writing_more (p + i) (get_or x (q + i) 0) w.written (omega arith) refl (sym b);
-        }
-
-    pub copy_end : reach tab (drop (q + i) x) ≡ 0 → (q + i ≡ q + reach tab (drop q x)) × (out ≡ over p (take (q + i - q) (drop q x)) old)
-    copy_end z =
-        let l = whole_field in
-        let n : reach tab (drop q x) ≡ q + i - q = omega (arith, w.ahead) in
-        (omega (arith, w.ahead), rw n at (writing_end w.written (omega (arith, w.ahead))))
+  pub copy_end : reach tab (drop i x) ≡ 0 → (i ≡ q + reach tab (drop q x)) × (out ≡ over p (take (i - q) (drop q x)) old)
+  copy_end z =
+      let on = w.on in
+      let n : reach tab (drop q x) ≡ i - q = omega (arith, w.ahead) in
+      let long = whole_field x q in
+      (omega (arith, w.ahead), rw n at (writing_end w.written (omega arith)))

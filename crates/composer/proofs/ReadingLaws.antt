@@ -9,6 +9,7 @@ use native.Mathlib.Nat.{add_assoc, add-zero}
 use mathlib.Core.Path.{◌≡◌, refl, sym, ap, ap₂, ◌∙◌, subst}
 use mathlib.Core.Logic.{◌≢◌}
 use mathlib.Core.List.{List, [], ◌∷◌}
+use Rattle.std.specs.Prelude.{Ok, Err}
 use lib.ListN.{length, drop, length-append, length-drop, drop_of_length-le}
 use lib.Dec.{leb}
 use borrow.Author.Tests.{le-leb}
@@ -23,7 +24,7 @@ use Rattle.diskette.proofs.LayoutLaws.{payment_length}
 use Rattle.fields.specs.declared.Refusal.{Refusal}
 use Rattle.fields.specs.declared.FileKind.{FileKind}
 use Rattle.fields.specs.Answers.{refusal_of, letters_of}
-use Rattle.fields.proofs.AnswerLaws.{zero_one}
+use Rattle.fields.specs.Answers as fields
 use Rattle.sums.specs.declared.Sums.{Sums}
 use Rattle.sums.specs.Sums.{totals_of, sums_of}
 use Rattle.payment.specs.Adding.{with_payment}
@@ -32,16 +33,13 @@ use Rattle.listing.specs.Lines.{tab, line_end, split}
 use Rattle.listing.specs.Composing.{Composed, made, denied, and_then, provided, compose_payment, compose_payments}
 use Rattle.listing.proofs.PaymentLaws.{payment_heard}
 use Rattle.line_reader.specs.Reaching.{reach}
-use Rattle.composer.specs.declared.LaidPayment.{LaidPayment}
-use Rattle.composer.specs.declared.LaidPayment.TheVariants as laid
-use Rattle.composer.specs.declared.LinesRead.{LinesRead}
-use Rattle.composer.specs.declared.LinesRead.TheVariants as lines
-use Rattle.composer.specs.Telling.{payment_told, laid_why, payments_told}
+use Rattle.composer.specs.declared.Listed.{Listed}
+use Rattle.composer.specs.Telling.{listed_of, payment_told, payments_told}
 use Rattle.composer.proofs.ToldLaws.{longest, min_is}
 use Rattle.composer.proofs.StepLaws.{not_empty, line_to, last_piece, line_within, onward, step}
 
 -- what is owed of the lines from p on, after payments that come to t and take so many bytes
-abbrev pub owed : List ℕ → List ℕ → Totals → ℕ → ℕ → LinesRead
+abbrev pub owed : List ℕ → List ℕ → Totals → ℕ → ℕ → fields.Reading Listed
 owed l letters t size p = payments_told t size (compose_payments letters t p (split line_end (drop p l)))
 
 pub record Reading (l : List ℕ) (kind : FileKind) (start count : ℕ) (sums : Sums) (size p : ℕ) : Type 0 where
@@ -60,7 +58,7 @@ told_more : (t : Totals) (size : ℕ) (q : Payment) (c : Composed (List Payment)
 told_more t size q (made qs) =
     let e : size + length (write_payments (q ∷ qs)) ≡ size + length (write_payment q) + length (write_payments qs)
     = ap (λ n. size + n) (length-append (write_payment q) (write_payments qs)) ∙ sym (add_assoc size (length (write_payment q)) (length (write_payments qs))) in
-    ap₂ (λ (u : Totals) (n : ℕ). lines.Are u.count (sums_of u) n) (together_more t q qs) e
+    ap₂ (λ (u : Totals) (n : ℕ). Ok (listed_of u n)) (together_more t q qs) e
 told_more t size q (denied v) = refl
 
 -- what a payment's line tells
@@ -70,21 +68,24 @@ pub record Heard (letters : List ℕ) (t : Totals) (sums new : Sums) (p bytes : 
   pub added : new ≡ with_payment sums payment
   pub size : bytes ≡ length (write_payment payment)
 
-module _ (letters : List ℕ) (t : Totals) (sums : Sums) (p : ℕ) (x : List ℕ) {a : LaidPayment} (told : a ≡ payment_told sums (compose_payment letters t p (split tab x))) where
-  pub heard_is : {new : Sums} {bytes : ℕ} → a ≡ laid.Is new bytes → Heard letters t sums new p bytes x
+same_kept : {x y : Sums × ℕ} → ◌≡◌ {A = fields.Reading (Sums × ℕ)} (Ok x) (Ok y) → x ≡ y
+same_kept e = cc
+
+module _ (letters : List ℕ) (t : Totals) (sums : Sums) (p : ℕ) (x : List ℕ) {a : fields.Reading (Sums × ℕ)} (told : a ≡ payment_told sums (compose_payment letters t p (split tab x))) where
+  pub heard_is : {new : Sums} {bytes : ℕ} → a ≡ Ok (new, bytes) → Heard letters t sums new p bytes x
   heard_is {new} {bytes} given = by (compose_payment letters t p (split tab x)) refl (sym told ∙ given)
     where
-      by : (c : Composed Payment) → compose_payment letters t p (split tab x) ≡ c → payment_told sums c ≡ laid.Is new bytes → Heard letters t sums new p bytes x
-      by (made q) e g = record { payment = q; composed = e; added = cc; size = cc }
-      by (denied v) e g = absurd (zero_one cc)
+      by : (c : Composed Payment) → compose_payment letters t p (split tab x) ≡ c → payment_told sums c ≡ Ok (new, bytes) → Heard letters t sums new p bytes x
+      by (made q) e g = record { payment = q; composed = e; added = ap (λ (x : Sums × ℕ). x.0) (sym (same_kept g)); size = ap (λ (x : Sums × ℕ). x.1) (sym (same_kept g)) }
+      by (denied v) e g = absurd cc
 
-  pub heard_refused : {y r : Refusal} → a ≡ laid.Refused y → r ≡ laid_why a → (v : Verdict) × (compose_payment letters t p (split tab x) ≡ denied v) × (r ≡ refusal_of v.number v.place)
-  heard_refused {y} {r} given w = by (compose_payment letters t p (split tab x)) refl (sym told ∙ given)
+  pub heard_refused : {r : Refusal} → a ≡ Err r → (v : Verdict) × (compose_payment letters t p (split tab x) ≡ denied v) × (r ≡ refusal_of v.number v.place)
+  heard_refused {r} given = by (compose_payment letters t p (split tab x)) refl (sym told ∙ given)
     where
-      by : (c : Composed Payment) → compose_payment letters t p (split tab x) ≡ c → payment_told sums c ≡ laid.Refused y
+      by : (c : Composed Payment) → compose_payment letters t p (split tab x) ≡ c → payment_told sums c ≡ Err r
           → (v : Verdict) × (compose_payment letters t p (split tab x) ≡ denied v) × (r ≡ refusal_of v.number v.place)
-      by (made q) e g = absurd (zero_one cc)
-      by (denied v) e g = (v, e, w ∙ ap laid_why (given ∙ sym g))
+      by (made q) e g = absurd cc
+      by (denied v) e g = (v, e, cc)
 
 module _ {l : List ℕ} {kind : FileKind} {start count : ℕ} {sums : Sums} {size p : ℕ} (reading : Reading l kind start count sums size p) (e : ℕ) (ends : e ≡ p + reach line_end (drop p l)) where
   abbrev t : Totals
@@ -128,8 +129,8 @@ module _ {l : List ℕ} {kind : FileKind} {start count : ℕ} {sums : Sums} {siz
 
     -- the line at p is refused
     pub reading_refused : {r : Refusal} {v : Verdict} → compose_payment (letters_of kind) t p (split tab (line_to l p e)) ≡ denied v → r ≡ refusal_of v.number v.place
-        → lines.Refused r ≡ owed l (letters_of kind) no_totals 0 start
-    reading_refused d w = ap lines.Refused w ∙ sym (reading.rest ∙ ap (payments_told t size) (stepped ∙ ap (onward l p e reading.inside ends more (letters_of kind) t) d))
+        → Err r ≡ owed l (letters_of kind) no_totals 0 start
+    reading_refused d w = ap (λ x. Err x) w ∙ sym (reading.rest ∙ ap (payments_told t size) (stepped ∙ ap (onward l p e reading.inside ends more (letters_of kind) t) d))
 
   -- ---- the end
 
@@ -138,22 +139,22 @@ module _ {l : List ℕ} {kind : FileKind} {start count : ℕ} {sums : Sums} {siz
     one_piece = last_piece l p e reading.inside ends last
 
     -- bytes follow the last line
-    pub reading_cut : p < length l → {r : Refusal} → r ≡ refusal_of 17 p → lines.Refused r ≡ owed l (letters_of kind) no_totals 0 start
+    pub reading_cut : p < length l → {r : Refusal} → r ≡ refusal_of 17 p → Err r ≡ owed l (letters_of kind) no_totals 0 start
     unfolding compose_payments
-    reading_cut h w = ap lines.Refused w ∙ sym (reading.rest ∙ ap (λ xs. payments_told t size (compose_payments (letters_of kind) t p xs)) one_piece ∙ rw (not_empty (drop p l) (omega (arith, length-drop p l))))
+    reading_cut h w = ap (λ x. Err x) w ∙ sym (reading.rest ∙ ap (λ xs. payments_told t size (compose_payments (letters_of kind) t p xs)) one_piece ∙ rw (not_empty (drop p l) (omega (arith, length-drop p l))))
 
     module _ (h : length l ≤ p) where
       at_end : compose_payments (letters_of kind) t p (split line_end (drop p l)) ≡ provided (leb 1 count) (refusing 18 p) (made [])
       unfolding compose_payments
       at_end = ap (compose_payments (letters_of kind) t p) one_piece ∙ ap (λ x. compose_payments (letters_of kind) t p (x ∷ [])) (drop_of_length-le l h)
 
-      pub reading_none : count ≡ 0 → {r : Refusal} → r ≡ refusal_of 18 p → lines.Refused r ≡ owed l (letters_of kind) no_totals 0 start
-      reading_none n w = ap lines.Refused w ∙ sym (reading.rest ∙ ap (payments_told t size) at_end ∙ rw n)
+      pub reading_none : count ≡ 0 → {r : Refusal} → r ≡ refusal_of 18 p → Err r ≡ owed l (letters_of kind) no_totals 0 start
+      reading_none n w = ap (λ x. Err x) w ∙ sym (reading.rest ∙ ap (payments_told t size) at_end ∙ rw n)
 
-      pub reading_ends : count ≢ 0 → lines.Are count sums size ≡ owed l (letters_of kind) no_totals 0 start
+      pub reading_ends : count ≢ 0 → Ok (record { count = count; sums = sums; size = size }) ≡ owed l (letters_of kind) no_totals 0 start
       reading_ends n =
           let some : provided {A = List Payment} (leb 1 count) (refusing 18 p) (made []) ≡ made [] = rw (le-leb 1 count (omega (arith, n))) in
           sym (
           reading.rest ∙ ap (payments_told t size) (at_end ∙ some)
-          ∙ ap₂ (λ (u : Totals) (n : ℕ). lines.Are u.count (sums_of u) n) (together_nothing t) (add-zero size)
+          ∙ ap₂ (λ (u : Totals) (n : ℕ). Ok (listed_of u n)) (together_nothing t) (add-zero size)
           )

@@ -4,6 +4,8 @@
 -- lines behind it (`lines`). Then composing the payments, and what the walk tells of them, are each unfolded by that one line (`step`,
 -- `seen_here`). The walk tells what composing makes of the line, and only of a line that is ended, so what it has seen is what the record tells
 -- (`seen_told`).
+use Rattle.std.specs.declared.option.Option.TheVariants as option
+use Rattle.std.specs.Prelude.{Ok}
 use Prim.Native.Nat.{ℕ, suc, ◌+◌, ◌-◌, ◌^◌, ◌≤◌, ◌<◌}
 use native.Mathlib.Omega.{arith}
 use native.Mathlib.Decide.{dec_le}
@@ -14,20 +16,20 @@ use mathlib.Core.List.{List, [], ◌∷◌}
 use lib.ListN.{length, take, drop, length-drop}
 use lib.Seq.{length-take-le, take_all}
 use Rattle.document.specs.Values.{Payment, Totals, adding}
-use Rattle.fields.proofs.AnswerLaws.{zero_one}
+use Rattle.diskette.specs.Writing.{write_payment}
+use Rattle.fields.specs.Answers.{Reading}
 use Rattle.listing.specs.Lines.{tab, line_end, split, empty}
 use Rattle.listing.specs.Composing.{Composed, made, denied, and_then, compose_payment, compose_payments}
 use Rattle.listing.proofs.LineLaws.{split_some}
 use Rattle.listing.proofs.LinesLaws.{payments_step}
 use Rattle.line_reader.specs.Reaching.{reach}
 use Rattle.line_reader.proofs.ReachLaws.{reach_le, pieces_more, pieces_last}
-use Rattle.line_reader.specs.declared.LineSeen.TheVariants as seen
+use Rattle.line_reader.specs.declared.SeenLine.{SeenLine}
 use Rattle.line_reader.specs.Told.{payment_seen, line_seen}
 use Rattle.line_reader.proofs.ToldLaws.{first_line}
+use Rattle.payment.specs.Adding.{with_payment}
 use Rattle.sums.specs.declared.Sums.{Sums}
 use Rattle.composer.specs.Telling.{payment_told, LineTold}
-use Rattle.composer.specs.declared.LaidPayment.TheVariants as laid
-use Rattle.composer.specs.declared.LineRead.TheVariants as one
 
 pub not_empty : (x : List ℕ) → 0 < length x → empty x ≡ false
 not_empty [] h = absurd (omega arith)
@@ -98,24 +100,26 @@ module _ (l : List ℕ) (p e : ℕ) (inside : p ≤ length l) (ends : e ≡ p + 
           ∙ ap (λ m. payment_seen sums m here) behind
 
 -- a payment that was seen, as it is told
-told_so : (sums : Sums) (n : ℕ) (c : Composed Payment) {new : Sums} {bytes next : ℕ} → seen.Is new bytes next ≡ payment_seen sums n c
-    → (laid.Is new bytes ≡ payment_told sums c) × (next ≡ n)
-told_so sums n (made q) i = (cc, cc)
-told_so sums n (denied v) i = absurd (zero_one cc)
+told_so : (sums : Sums) (n : ℕ) (c : Composed Payment) {s : SeenLine} → option.Some s ≡ payment_seen sums n c
+    → (◌≡◌ {A = Reading (Sums × ℕ)} (Ok (s.sums, s.bytes)) (payment_told sums c)) × (s.next ≡ n)
+told_so sums n (made q) {s} i =
+    let same : s ≡ record { sums = with_payment sums q; bytes = length (write_payment q); next = n } = cc in
+    (ap (λ (x : SeenLine). Ok (x.sums, x.bytes)) same, ap (λ (x : SeenLine). x.next) same)
+told_so sums n (denied v) i = absurd cc
 
 -- a line of which a payment was seen is ended, and is told as by its record
-pub seen_told : (l : List ℕ) (p : ℕ) (letters : List ℕ) (t : Totals) (sums : Sums) {new : Sums} {bytes next : ℕ} → p ≤ length l
-    → seen.Is new bytes next ≡ line_seen letters t sums p (split line_end (drop p l)) → LineTold l p letters t sums (one.Is new bytes next)
+pub seen_told : (l : List ℕ) (p : ℕ) (letters : List ℕ) (t : Totals) (sums : Sums) (s : SeenLine) → p ≤ length l
+    → option.Some s ≡ line_seen letters t sums p (split line_end (drop p l)) → LineTold l p letters t sums (Ok (option.Some s))
 unfolding line_seen
-seen_told l p letters t sums {new} {bytes} {next} inside is = by (dec_le (length l) e)
+seen_told l p letters t sums s inside is = by (dec_le (length l) e)
   where
     e : ℕ
     e = p + reach line_end (drop p l)
 
-    by : Dec (length l ≤ e) → LineTold l p letters t sums (one.Is new bytes next)
+    by : Dec (length l ≤ e) → LineTold l p letters t sums (Ok (option.Some s))
     by (yes h) =
         let last = last_piece l p e inside refl (omega (arith, line_inside l p e inside refl)) in
-        absurd (zero_one (let i = is ∙ ap (line_seen letters t sums p) last in cc))
+        let i = is ∙ ap (line_seen letters t sums p) last in absurd cc
     by (no h) =
         let more : e ≢ length l = λ i. omega (arith, i) in
         let told = told_so sums (e + 1) (here l p e inside refl more letters t) (is ∙ seen_here l p e inside refl more letters t sums) in

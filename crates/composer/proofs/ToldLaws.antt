@@ -8,6 +8,7 @@ use native.Mathlib.Omega.{arith}
 use mathlib.Core.Path.{◌≡◌, refl, sym, ap, ap₂, ◌∙◌}
 use mathlib.Core.Bool.{Bool, true, false, cond}
 use mathlib.Core.List.{List, [], ◌∷◌, ◌++◌}
+use Rattle.std.specs.Prelude.{Ok, Err}
 use lib.ListN.{length, take, length-append}
 use lib.Dec.{leb}
 use Rattle.form.specs.Place.{read_at}
@@ -32,20 +33,12 @@ use Rattle.layout.specs.Lines as line
 use Rattle.layout.specs.Cells.{letter_of, cells_of}
 use Rattle.layout.proofs.CellLaws.{fields_first, letter_long}
 use Rattle.fields.specs.declared.Refusal.{Refusal}
-use Rattle.fields.specs.declared.KindRead.TheVariants as kind
-use Rattle.fields.specs.Answers.{refusal_of, of_read, kind_of, Telling}
-use Rattle.fields.proofs.WalkLaws.{Told, halts}
+use Rattle.fields.specs.Answers.{Reading, refusal_of, of_read, kind_of, Telling}
+use Rattle.fields.proofs.WalkLaws.{halts, reads}
 use Rattle.sums.specs.declared.Sums.{Sums}
 use Rattle.header.specs.declared.Header.{Header}
-use Rattle.header.specs.declared.HeaderRead.{HeaderRead}
-use Rattle.header.specs.declared.HeaderRead.TheVariants as headed
-use Rattle.header.specs.Heading.{headers, header_why}
-use Rattle.header.proofs.Laws.{headers_told, header_is}
-use Rattle.payment.specs.declared.PaymentRead.{PaymentRead}
-use Rattle.payment.specs.declared.PaymentRead.TheVariants as payment
-use Rattle.payment.specs.Adding.{with_payment, payments_on, payment_why}
-use Rattle.payment.proofs.Laws.{payments_told_lem, payment_is}
-use Rattle.composer.specs.declared.LaidPayment.TheVariants as laid
+use Rattle.header.specs.Heading.{headers}
+use Rattle.payment.specs.Adding.{with_payment, payments_on}
 use Rattle.composer.specs.Telling.{line_formed, behind_letter, place_in, head_told, payment_told, FormedLine, tells}
 
 -- ---- any line
@@ -61,13 +54,12 @@ module _ {A : Type 0} (m : Form Name A) (head : Bool) (n p : ℕ) (ps : List Pie
   line_heard (t ∷ ts) e = rw (fields, e)
 
   -- a refused field, where it stands in the line
-  module _ {R S : Type 0} {u : Telling A S} {why : S → Refusal} (k : Told u why) {a : S} {x r z : Refusal} (gives : A → R) (refuses : Refusal → R)
-      (ts : List (List ℕ)) (e : line_formed head n ts ≡ true) (told : a ≡ of_read u (read_at m (lay ps (behind_letter ts)) 0)) where
-    pub line_refuses : a ≡ u.refuses x → r ≡ why a → z ≡ refusal_of r.number (p + place_in head n ts r.place)
-        → refuses z ≡ tells gives refuses (compose_line m (letter_of head) ps p ts)
-    line_refuses given w i =
-        let h = halts k (read_at m (lay ps (behind_letter ts)) 0) told given w in
-        rw (i, h.2) (sym (ap (tells gives refuses) (line_heard ts e ∙ ap (heard ps (behind_letter ts) p) h.1) ∙ rw fields))
+  module _ {T S : Type 0} (u : Telling A S) {a : Reading S} {r z : Refusal} (keep : A → T) (ts : List (List ℕ)) (e : line_formed head n ts ≡ true)
+      (told : a ≡ of_read u (read_at m (lay ps (behind_letter ts)) 0)) where
+    pub line_refuses : a ≡ Err r → z ≡ refusal_of r.number (p + place_in head n ts r.place) → Err z ≡ tells keep (compose_line m (letter_of head) ps p ts)
+    line_refuses given i =
+        let h = halts u (read_at m (lay ps (behind_letter ts)) 0) told given in
+        rw (i, h.2) (sym (ap (tells keep) (line_heard ts e ∙ ap (heard ps (behind_letter ts) p) h.1) ∙ rw fields))
 
 -- the place of a refused field lies in the line, or just behind it
 pub place_inside : (head : Bool) (n : ℕ) (x : List ℕ) (p : ℕ) → FormedLine head n x → place_in head n (split tab x) p ≤ length x + 1
@@ -83,23 +75,22 @@ place_inside head n x p f = by (split tab x) refl f.1.1
 
 -- ---- A
 
-module _ (ts : List (List ℕ)) (q : ℕ) where
-  pub header_denied : {z : Refusal} → z ≡ refusal_of 17 0 → line_formed true fields_of_header_line ts ≡ false → kind.Refused z ≡ head_told q (compose_header ts)
+module _ (ts : List (List ℕ)) where
+  pub header_denied : {z : Refusal} → z ≡ refusal_of 17 0 → line_formed true fields_of_header_line ts ≡ false → Err z ≡ head_told (compose_header ts)
   unfolding compose_header
-  header_denied w e = ap kind.Refused w ∙ sym (ap (head_told q) (line_denied header true fields_of_header_line 0 record_a refl ts e))
+  header_denied w e = ap (λ x. Err x) w ∙ sym (ap head_told (line_denied header true fields_of_header_line 0 record_a refl ts e))
 
-  module _ (e : line_formed true fields_of_header_line ts ≡ true) {a : HeaderRead} (told : a ≡ of_read headers (read_at header (lay record_a (behind_letter ts)) 0)) where
-    pub header_refuses : {x r z : Refusal} → a ≡ headed.Refused x → r ≡ header_why a → z ≡ refusal_of r.number (0 + place_in true fields_of_header_line ts r.place)
-        → kind.Refused z ≡ head_told q (compose_header ts)
+  module _ (e : line_formed true fields_of_header_line ts ≡ true) {a : Reading (Header × ℕ)} (told : a ≡ of_read headers (read_at header (lay record_a (behind_letter ts)) 0)) where
+    pub header_refuses : {r z : Refusal} → a ≡ Err r → z ≡ refusal_of r.number (0 + place_in true fields_of_header_line ts r.place) → Err z ≡ head_told (compose_header ts)
     unfolding compose_header
-    header_refuses given w i = line_refuses header true fields_of_header_line 0 record_a refl headers_told (λ h. kind.Is (kind_of h.file_kind) q) kind.Refused ts e told given w i
+    header_refuses given i = line_refuses header true fields_of_header_line 0 record_a refl headers (λ h. kind_of h.file_kind) ts e told given i
 
-    pub header_accepts : {h : Header} {at : ℕ} → a ≡ headed.Is h at → kind.Is h.kind q ≡ head_told q (compose_header ts)
+    pub header_accepts : {h : Header} {at : ℕ} → a ≡ Ok (h, at) → Ok h.kind ≡ head_told (compose_header ts)
     unfolding compose_header
     header_accepts given =
-        let x = header_is (read_at header (lay record_a (behind_letter ts)) 0) told given in
-        ap (λ (y : Header). kind.Is y.kind q) x.2
-        ∙ sym (ap (head_told q) (line_heard header true fields_of_header_line 0 record_a refl ts e ∙ ap (heard record_a (behind_letter ts) 0) x.1))
+        let x = reads headers (read_at header (lay record_a (behind_letter ts)) 0) told given in
+        ap (λ (y : Header × ℕ). Ok y.0.kind) x.given
+        ∙ sym (ap head_told (line_heard header true fields_of_header_line 0 record_a refl ts e ∙ ap (heard record_a (behind_letter ts) 0) x.done))
 
 -- ---- a payment
 
@@ -130,26 +121,26 @@ module _ (letters : List ℕ) (t : Totals) (sums : Sums) (p : ℕ) (ts : List (L
   unfolding compose_payment
   as_told = ap (λ j. compose_line (whole_payment letters t) (ascii "C") (record_c j) p ts) (sym parts)
 
-  pub payment_denied : {z : Refusal} → z ≡ refusal_of 17 p → line_formed false (fields_with k) ts ≡ false → laid.Refused z ≡ payment_told sums (compose_payment letters t p ts)
+  pub payment_denied : {z : Refusal} → z ≡ refusal_of 17 p → line_formed false (fields_with k) ts ≡ false → Err z ≡ payment_told sums (compose_payment letters t p ts)
   payment_denied w e =
-      ap laid.Refused w ∙ sym (ap (payment_told sums) (as_told ∙ line_denied (whole_payment letters t) false (fields_with k) p (record_c k) (fields_first k few_told) ts e))
+      ap (λ x. Err x) w ∙ sym (ap (payment_told sums) (as_told ∙ line_denied (whole_payment letters t) false (fields_with k) p (record_c k) (fields_first k few_told) ts e))
 
-  module _ (e : line_formed false (fields_with k) ts ≡ true) {a : PaymentRead}
+  module _ (e : line_formed false (fields_with k) ts ≡ true) {a : Reading (Sums × ℕ)}
       (told : a ≡ of_read (payments_on sums) (read_at (whole_payment letters t) (lay (record_c k) (behind_letter ts)) 0)) where
-    pub payment_refuses : {x r z : Refusal} → a ≡ payment.Refused x → r ≡ payment_why a → z ≡ refusal_of r.number (p + place_in false (fields_with k) ts r.place)
-        → laid.Refused z ≡ payment_told sums (compose_payment letters t p ts)
-    payment_refuses given w i =
-        line_refuses (whole_payment letters t) false (fields_with k) p (record_c k) (fields_first k few_told) (payments_told_lem sums)
-        (λ q. laid.Is (with_payment sums q) (length (write_payment q))) laid.Refused ts e told given w i
+    pub payment_refuses : {r z : Refusal} → a ≡ Err r → z ≡ refusal_of r.number (p + place_in false (fields_with k) ts r.place)
+        → Err z ≡ payment_told sums (compose_payment letters t p ts)
+    payment_refuses given i =
+        line_refuses (whole_payment letters t) false (fields_with k) p (record_c k) (fields_first k few_told) (payments_on sums)
+        (λ q. (with_payment sums q, length (write_payment q))) ts e told given i
         ∙ ap (payment_told sums) (sym as_told)
 
-    pub payment_accepts : {new : Sums} {at bytes : ℕ} → a ≡ payment.Is new at → bytes ≡ 128 * section (min k most_parts)
-        → laid.Is new bytes ≡ payment_told sums (compose_payment letters t p ts)
+    pub payment_accepts : {new : Sums} {at bytes : ℕ} → a ≡ Ok (new, at) → bytes ≡ 128 * section (min k most_parts)
+        → Ok (new, bytes) ≡ payment_told sums (compose_payment letters t p ts)
     payment_accepts {new} {at} {bytes} given size =
-        let x = payment_is sums (read_at (whole_payment letters t) (lay (record_c k) (behind_letter ts)) 0) told given in
-        let c : compose_payment letters t p ts ≡ made x.0
-        = as_told ∙ line_heard (whole_payment letters t) false (fields_with k) p (record_c k) (fields_first k few_told) ts e ∙ ap (heard (record_c k) (behind_letter ts) p) x.1 in
-        let h = payment_heard letters t p ts x.0 c in
-        let l : bytes ≡ length (write_payment x.0)
-        = size ∙ ap (λ n. 128 * section n) (min_is k few_told ∙ parts ∙ h.parts) ∙ sym (payment_length letters x.0 h.good.legal) in
-        ap₂ laid.Is (x.2) l ∙ ap (payment_told sums) (sym c)
+        let x = reads (payments_on sums) (read_at (whole_payment letters t) (lay (record_c k) (behind_letter ts)) 0) told given in
+        let c : compose_payment letters t p ts ≡ made x.value
+        = as_told ∙ line_heard (whole_payment letters t) false (fields_with k) p (record_c k) (fields_first k few_told) ts e ∙ ap (heard (record_c k) (behind_letter ts) p) x.done in
+        let h = payment_heard letters t p ts x.value c in
+        let l : bytes ≡ length (write_payment x.value)
+        = size ∙ ap (λ n. 128 * section n) (min_is k few_told ∙ parts ∙ h.parts) ∙ sym (payment_length letters x.value h.good.legal) in
+        ap₂ (λ (s : Sums) (n : ℕ). Ok (s, n)) (ap (λ (y : Sums × ℕ). y.0) x.given) l ∙ ap (payment_told sums) (sym c)

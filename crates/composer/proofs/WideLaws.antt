@@ -18,7 +18,6 @@ use borrow.Author.Tests.{eqb-true, leb-true, lt-leb}
 use Rattle.form.specs.Kind.{same}
 use Rattle.form.proofs.BelowLaws.{below, agree}
 use Rattle.form.proofs.BoolLaws.{T_of, is_true, and_both, or_cases}
-use Rattle.fields.proofs.AnswerLaws.{zero_one}
 use Rattle.listing.specs.Lines.{tab, split, ends_in_blank}
 use Rattle.listing.specs.Records.{numbers_of_payment_line, Cell, wide, field_formed, formed}
 use Rattle.layout.specs.declared.Cell.{Cell as CodeCell}
@@ -59,8 +58,8 @@ full_width n w h = ⊎_elim (λ t. eqb-true n w (is_true _ t)) (λ t. absurd t) 
 
 each_wide : (cs : List Cell) (ts : List (List ℕ)) (i : ℕ) (c : Cell) (t : List ℕ) → T (formed cs ts) → get_elem? cs i ≡ some c → get_elem? ts i ≡ some t
     → T (wide c.kind (length t))
-each_wide [] ts i c t h e f = absurd (zero_one cc)
-each_wide (d ∷ cs) [] i c t h e f = absurd (zero_one cc)
+each_wide [] ts i c t h e f = absurd cc
+each_wide (d ∷ cs) [] i c t h e f = absurd cc
 each_wide (d ∷ cs) (u ∷ ts) zero c t h e f =
     let x : d ≡ c = cc in
     let y : u ≡ t = cc in

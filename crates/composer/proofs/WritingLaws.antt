@@ -21,7 +21,6 @@ use Rattle.document.specs.Marks.{most_parts}
 use Rattle.document.specs.Values.{Header, Payment, Document, Totals, no_totals, adding}
 use Rattle.diskette.specs.Writing.{section, write_header, write_payment, write_payments}
 use Rattle.diskette.proofs.LayoutLaws.{payment_length}
-use Rattle.fields.proofs.AnswerLaws.{zero_one}
 use Rattle.listing.specs.Lines.{tab, line_end, split, empty}
 use Rattle.listing.specs.Listing.{payment_fields}
 use Rattle.listing.specs.Records.{record_a, record_c, fields_of_header_line, numbers_of_payment_line, fields_with, lay, cells, formed}
@@ -96,7 +95,7 @@ head_written x h e =
 
 written_more : (ps : List Payment) (row : ℕ) (q : Payment) (qs : List Payment) → drop row ps ≡ q ∷ qs
     → write_payments (take (row + 1) ps) ≡ write_payments (take row ps) ++ write_payment q
-written_more [] row q qs e = let none : [] ≡ q ∷ qs = sym (drop_of_length-le [] {i = row} (omega arith)) ∙ e in absurd (zero_one cc)
+written_more [] row q qs e = let none : [] ≡ q ∷ qs = sym (drop_of_length-le [] {i = row} (omega arith)) ∙ e in absurd cc
 written_more (x ∷ xs) zero q qs e = let same : x ≡ q = cc in append-nil (write_payment x) ∙ ap write_payment same
 written_more (x ∷ xs) (suc row) q qs e =
     let n : suc row + 1 ≡ suc (row + 1) = omega arith in
@@ -156,7 +155,7 @@ module _ {l old : List ℕ} {ps : List Payment} {out : List ℕ} {row p at : ℕ
       let g = provided_made (empty (drop p l)) (refusing 17 p) (provided (leb 1 t.count) (refusing 18 p) (made [])) (q ∷ qs) f in
       let h = provided_made (leb 1 t.count) (refusing 18 p) (made []) (q ∷ qs) g.1 in
       let none = h.1 in
-      zero_one cc
+      cc
 
   pub next : Next
   next =

@@ -1,12 +1,10 @@
 -- What private functions go by, and no public promise cites: what they answer of a line and of lines, given what composing makes of them.
-use Rattle.std.specs.Prelude.{ℕ, ◌+◌, ◌-◌, ◌≤◌, ◌<◌, ◌≡◌, ◌≢◌, Bool, true, false, ◌&&◌, ◌||◌, not, List, [], ◌∷◌, length, take, drop, leb, eqb}
+use Rattle.std.specs.Prelude.{ℕ, ◌+◌, ◌-◌, ◌≤◌, ◌<◌, ◌≡◌, ◌≢◌, Bool, true, false, ◌&&◌, ◌||◌, not, List, [], ◌∷◌, length, take, drop, leb, eqb, Option, Some, None, Ok, Err}
 use Rattle.form.specs.Kind.{same}
 use Rattle.document.specs.Values.{Header, Payment, Document, Totals, totals, together}
 use Rattle.diskette.specs.Writing.{write_payment, write_payments}
-use Rattle.fields.specs.declared.Refusal.{Refusal}
-use Rattle.fields.specs.declared.KindRead.{KindRead}
-use Rattle.fields.specs.declared.KindRead.TheVariants as kind
-use Rattle.fields.specs.Answers.{refusal_of, kind_of}
+use Rattle.fields.specs.declared.FileKind.{FileKind}
+use Rattle.fields.specs.Answers.{Reading, refusal_of, kind_of}
 use Rattle.payment.specs.Adding.{with_payment}
 use Rattle.sums.specs.declared.Sums.{Sums}
 use Rattle.sums.specs.Sums.{sums_of}
@@ -17,12 +15,8 @@ use Rattle.layout.specs.declared.Cell.{Cell}
 use Rattle.layout.specs.Lines as line
 use Rattle.layout.specs.Cells.{letter_of, cells_of}
 use Rattle.line_reader.specs.Reaching.{reach}
-use Rattle.composer.specs.declared.LaidPayment.{LaidPayment}
-use Rattle.composer.specs.declared.LaidPayment.TheVariants as laid
-use Rattle.composer.specs.declared.LineRead.{LineRead}
-use Rattle.composer.specs.declared.LineRead.TheVariants as one
-use Rattle.composer.specs.declared.LinesRead.{LinesRead}
-use Rattle.composer.specs.declared.LinesRead.TheVariants as lines
+use Rattle.line_reader.specs.declared.SeenLine.{SeenLine}
+use Rattle.composer.specs.declared.Listed.{Listed}
 
 -- ---- a line by its fields
 
@@ -59,44 +53,38 @@ place_in head n ts p = in_line (take n (cells_of head)) (behind_letter ts) line.
 
 -- ---- what is told of what is composed
 
-abbrev pub tells : {A R : Type 0} → (A → R) → (Refusal → R) → Composed A → R
-tells gives refuses (made a) = gives a
-tells gives refuses (denied v) = refuses (refusal_of v.number v.place)
+abbrev pub tells : {A T : Type 0} → (A → T) → Composed A → Reading T
+tells keep (made a) = Ok (keep a)
+tells keep (denied v) = Err (refusal_of v.number v.place)
 
--- what is told of A: its kind, and the place behind its line
-abbrev pub head_told : ℕ → Composed Header → KindRead
-head_told q c = tells (λ h. kind.Is (kind_of h.file_kind) q) kind.Refused c
+-- what is told of A: its kind
+abbrev pub head_told : Composed Header → Reading FileKind
+head_told c = tells (λ h. kind_of h.file_kind) c
 
 -- what is told of a payment: the sums with it, and its bytes in the file
-abbrev pub payment_told : Sums → Composed Payment → LaidPayment
-payment_told sums c = tells (λ p. laid.Is (with_payment sums p) (length (write_payment p))) laid.Refused c
-
-abbrev pub laid_why : LaidPayment → Refusal
-laid_why (laid.Is sums bytes) = refusal_of 0 0
-laid_why (laid.Refused r) = r
+abbrev pub payment_told : Sums → Composed Payment → Reading (Sums × ℕ)
+payment_told sums c = tells (λ p. (with_payment sums p, length (write_payment p))) c
 
 -- what is told of the line that begins at p, whose end is at e
-pub record LineEnded (l : List ℕ) (p : ℕ) (letters : List ℕ) (t : Totals) (sums : Sums) (a : LaidPayment) (e : ℕ) : Type 0 where
+pub record LineEnded (l : List ℕ) (p : ℕ) (letters : List ℕ) (t : Totals) (sums : Sums) (a : Reading (Sums × ℕ)) (e : ℕ) : Type 0 where
   pub ends : e ≡ p + reach line_end (drop p l)
   pub more : e ≢ length l
   pub told : a ≡ payment_told sums (compose_payment letters t p (split tab (take (e - p) (drop p l))))
 
 -- what is told of the line that begins at p, after payments that come to t
-abbrev pub LineTold : List ℕ → ℕ → List ℕ → Totals → Sums → LineRead → Type 0
-LineTold l p letters t sums one.NotEnded = p + reach line_end (drop p l) ≡ length l
-LineTold l p letters t sums (one.Refused r) = (e : ℕ) × LineEnded l p letters t sums (laid.Refused r) e
-LineTold l p letters t sums (one.Is new bytes next) = (e : ℕ) × LineEnded l p letters t sums (laid.Is new bytes) e × (next ≡ e + 1)
+abbrev pub LineTold : List ℕ → ℕ → List ℕ → Totals → Sums → Reading (Option SeenLine) → Type 0
+LineTold l p letters t sums (Ok None) = p + reach line_end (drop p l) ≡ length l
+LineTold l p letters t sums (Ok (Some line)) = (e : ℕ) × LineEnded l p letters t sums (Ok (line.sums, line.bytes)) e × (line.next ≡ e + 1)
+LineTold l p letters t sums (Err r) = (e : ℕ) × LineEnded l p letters t sums (Err r) e
+
+-- payments that come to t, and take so many bytes
+abbrev pub listed_of : Totals → ℕ → Listed
+listed_of t size = record { count = t.count; sums = sums_of t; size = size }
 
 -- what is told of payments after others that come to t: what all come to, and these payments' bytes added to so many
-abbrev pub payments_told : Totals → ℕ → Composed (List Payment) → LinesRead
-payments_told t size c =
-    tells (λ ps. let u = together t (totals ps) in lines.Are u.count (sums_of u) (size + length (write_payments ps))) lines.Refused c
+abbrev pub payments_told : Totals → ℕ → Composed (List Payment) → Reading Listed
+payments_told t size c = tells (λ ps. listed_of (together t (totals ps)) (size + length (write_payments ps))) c
 
 -- what is told of a listing: what its payments come to, and their bytes
-abbrev pub listing_told : Composed Document → LinesRead
-listing_told c =
-    tells (λ d. lines.Are (totals d.payments).count (sums_of (totals d.payments)) (length (write_payments d.payments))) lines.Refused c
-
-abbrev pub lines_why : LinesRead → Refusal
-lines_why (lines.Are n t size) = refusal_of 0 0
-lines_why (lines.Refused r) = r
+abbrev pub listing_told : Composed Document → Reading Listed
+listing_told c = tells (λ d. listed_of (totals d.payments) (length (write_payments d.payments))) c

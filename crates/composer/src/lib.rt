@@ -15,12 +15,11 @@ ghost use Rattle.listing.specs.Records.{record_c, parts_of, lay};
 ghost use Rattle.listing.specs.Composing.{whole_payment, compose_header, compose_payment, compose_payments, compose};
 ghost use Rattle.listing.specs.Endings.{composed, within, written};
 ghost use Rattle.output.specs.Writing.{over, written_of};
-ghost use Rattle.composer.specs.Telling.{FormedLine, PaymentLine, behind_letter, lines_parts, place_in, head_told, payment_told, laid_why, LineTold, payments_told, listing_told, lines_why};
+ghost use Rattle.composer.specs.Telling.{FormedLine, PaymentLine, behind_letter, lines_parts, place_in, head_told, payment_told, LineTold, payments_told, listing_told};
 ghost use Rattle.composer.specs.Writing.{composed_payments, AcceptedListing, Ready};
 
 use fields::{FileKind, KindRead, Number, Refusal, refusals};
 use header::HeaderRead;
-use line_reader::LineSeen;
 use output::Written;
 use payment::PaymentRead;
 use sums::Sums;
@@ -34,48 +33,12 @@ const A_AND_E: usize = layout::length::A + layout::length::E;
 // The fields of a payment's line that tells no part, its letter among them.
 const FEWEST_FIELDS: usize = 1 + layout::line::FIELDS_OF_C;
 
-// What is told of a payment's line with the help of its record: it is refused; the sums with the payment, and the payment's bytes in the file.
-#[derive(Clone, Copy)]
-enum LaidPayment {
-    Refused(Refusal),
-    Is(Sums, usize),
-}
-
-impl LaidPayment {
-    fn why(self) -> Refusal
-        ensures { result ≡ laid_why self }
-    {
-        match self {
-            LaidPayment::Is(_, _) => fields::NO_REFUSAL,
-            LaidPayment::Refused(r) => r,
-        }
-    }
-}
-
-// What is told of a line: it has no end; it is refused; the sums with its payment, the payment's bytes in the file, and the place behind.
-#[derive(Clone, Copy)]
-enum LineRead {
-    NotEnded,
-    Refused(Refusal),
-    Is(Sums, usize, usize),
-}
-
 // What the payments of a listing come to, and how many bytes they take in the file.
 #[derive(Clone, Copy)]
-enum LinesRead {
-    Refused(Refusal),
-    Are(u64, Sums, usize),
-}
-
-impl LinesRead {
-    fn why(self) -> Refusal
-        ensures { result ≡ lines_why self }
-    {
-        match self {
-            LinesRead::Are(_, _, _) => fields::NO_REFUSAL,
-            LinesRead::Refused(r) => r,
-        }
-    }
+struct Listed {
+    count: u64,
+    sums: Sums,
+    size: usize,
 }
 
 // The refusal of a field of the record of a line that begins at p: the field's own place in the line.
@@ -87,21 +50,19 @@ fn refused_in(head: bool, n: usize, x: &[u8], p: usize, why: Refusal) -> Refusal
     fields::refuse(why.number, p + place)
 }
 
-// The line x of A, with which the listing begins.
-fn header_line(x: &[u8]) -> KindRead
-    ensures { result ≡ head_told (length x.now) (compose_header (split tab x.now)) }
+// The line x of A, with which the listing begins: its kind of file.
+fn header_line(x: &[u8]) -> Reading<FileKind>
+    ensures { result ≡ head_told (compose_header (split tab x.now)) }
 {
     if !line::formed(true, layout::line::FIELDS_OF_A, x) {
-        return KindRead::Refused(fields::refuse(refusals::NO_LINE, 0));
+        return Err(fields::refuse(refusals::NO_LINE, 0));
     }
     let mut laid = [b' '; layout::length::A];
     record::lay_header(x, &mut laid);
-    let a = header::header_at(&laid, 0);
-    let HeaderRead::Is(h, _) = a else {
-        return KindRead::Refused(refused_in(true, layout::line::FIELDS_OF_A, x, 0, a.why()));
-    };
-    let kind = h.kind;
-    KindRead::Is(kind, x.len())
+    match header::header_at(&laid, 0) {
+        Ok((header, _)) => Ok(header.kind),
+        Err(why) => Err(refused_in(true, layout::line::FIELDS_OF_A, x, 0, why)),
+    }
 }
 
 // How many parts a C line tells that has so many fields, its letter among them.
@@ -119,17 +80,15 @@ fn parts_of(fields: usize) -> usize
 }
 
 // The record C with its length, after so many payments that come to these sums: whether it may begin, and its fields.
-fn payment_record(c: &[u8], kind: FileKind, count: u64, sums: Sums) -> PaymentRead
+fn payment_record(c: &[u8], kind: FileKind, count: u64, sums: Sums) -> Reading<(Sums, usize)>
     ensures { result ≡ of_read (payments_on sums) (read_at (whole_payment (letters_of kind) (totals_of count sums)) c.now 0) }
 {
-    let first = payment::length_at(c, 0, count, sums);
-    let Number::Is(l, q) = first else {
-        return PaymentRead::Refused(first.why());
-    };
+    let (l, q) = payment::length_at(c, 0, count, sums)?;
     payment::payment_at(c, q, kind, sums, l)
 }
 
-// The line x of a payment, which begins at p, after so many payments that come to these sums. Its record is laid out in `space`.
+// The line x of a payment, which begins at p, after so many payments that come to these sums: the sums with it, and its bytes in the file. Its
+// record is laid out in `space`.
 fn payment_line(
     x: &[u8],
     p: usize,
@@ -137,48 +96,54 @@ fn payment_line(
     count: u64,
     sums: Sums,
     space: &mut [u8],
-) -> LaidPayment
+) -> Reading<(Sums, usize)>
     requires { (p + length x.now + 1 < 2 ^ 64) × (length space.old ≡ 128 * section most_parts) }
     ensures { result ≡ payment_told sums (compose_payment (letters_of kind) (totals_of count sums) p (split tab x.now)) }
 {
     let k = parts_of(line::count_fields(x));
     let n = layout::line::FIELDS_OF_C + 2 * k;
     if !line::formed(false, n, x) {
-        return LaidPayment::Refused(fields::refuse(refusals::NO_LINE, p));
+        return Err(fields::refuse(refusals::NO_LINE, p));
     }
     let bytes = layout::bytes_of(k);
     record::lay_payment(k, x, &mut space[..bytes]);
-    let c = payment_record(&space[..bytes], kind, count, sums);
-    let PaymentRead::Is(new_sums, _) = c else {
-        return LaidPayment::Refused(refused_in(false, n, x, p, c.why()));
-    };
-    LaidPayment::Is(new_sums, bytes)
+    match payment_record(&space[..bytes], kind, count, sums) {
+        Ok((new_sums, _)) => Ok((new_sums, bytes)),
+        Err(why) => Err(refused_in(false, n, x, p, why)),
+    }
 }
 
-// The line that begins at p, after so many payments that come to these sums. A line that is in order is read in one walk; any other is told of
-// with the help of its record, which is laid out in `space`.
-fn line_at(l: &[u8], p: usize, kind: FileKind, count: u64, sums: Sums, space: &mut [u8]) -> LineRead
+// The line that begins at p, after so many payments that come to these sums; none where no line ends there. A line that is in order is read in one
+// walk; any other is told of with the help of its record, which is laid out in `space`.
+fn line_at(
+    l: &[u8],
+    p: usize,
+    kind: FileKind,
+    count: u64,
+    sums: Sums,
+    space: &mut [u8],
+) -> Reading<Option<SeenLine>>
     requires { (p ≤ length l.now) × (length space.old ≡ 128 * section most_parts) }
     ensures { LineTold l.now p (letters_of kind) (totals_of count sums) sums result }
 {
     let seen = line_reader::read_line(l, p, kind, count, sums);
-    if let LineSeen::Is(new_sums, bytes, next) = seen {
-        return LineRead::Is(new_sums, bytes, next);
+    if let Some(line) = seen {
+        return Ok(Some(line));
     }
     let e = line_reader::reaching::reach(l, p, layout::line::END);
     if e == l.len() {
-        return LineRead::NotEnded;
+        return Ok(None);
     }
-    let c = payment_line(&l[p..e], p, kind, count, sums, space);
-    let LaidPayment::Is(new_sums, bytes) = c else {
-        return LineRead::Refused(c.why());
-    };
-    let next = e + 1;
-    LineRead::Is(new_sums, bytes, next)
+    let (new_sums, bytes) = payment_line(&l[p..e], p, kind, count, sums, space)?;
+    Ok(Some(SeenLine {
+        sums: new_sums,
+        bytes,
+        next: e + 1,
+    }))
 }
 
 // The payments' lines from `start` on, in a file of this kind. Records are laid out in `space`.
-fn read_payments(l: &[u8], start: usize, kind: FileKind, space: &mut [u8]) -> LinesRead
+fn read_payments(l: &[u8], start: usize, kind: FileKind, space: &mut [u8]) -> Reading<Listed>
     requires { (start ≤ length l.now) × (length space.old ≡ 128 * section most_parts) }
     ensures { result ≡ payments_told no_totals 0 (compose_payments (letters_of kind) no_totals start (split line_end (drop start l.now))) }
 {
@@ -186,43 +151,33 @@ fn read_payments(l: &[u8], start: usize, kind: FileKind, space: &mut [u8]) -> Li
     let mut count: u64 = 0;
     let mut sums = sums::NO_SUMS;
     let mut size = 0;
-    loop {
-        let line = line_at(l, p, kind, count, sums, space);
-        match line {
-            LineRead::NotEnded => break,
-            LineRead::Refused(why) => return LinesRead::Refused(why),
-            LineRead::Is(new_sums, bytes, next) => {
-                sums = new_sums;
-                count += 1;
-                size += bytes;
-                p = next;
-            }
-        }
+    while let Some(line) = line_at(l, p, kind, count, sums, space)? {
+        sums = line.sums;
+        count += 1;
+        size += line.bytes;
+        p = line.next;
     }
     if p < l.len() {
-        return LinesRead::Refused(fields::refuse(refusals::NO_LINE, p));
+        return Err(fields::refuse(refusals::NO_LINE, p));
     }
     if count == 0 {
-        return LinesRead::Refused(fields::refuse(refusals::ENDS_EARLY, p));
+        return Err(fields::refuse(refusals::ENDS_EARLY, p));
     }
-    LinesRead::Are(count, sums, size)
+    Ok(Listed { count, sums, size })
 }
 
 // What is told of the whole listing: its refusal, or what its payments come to.
-fn read_listing(l: &[u8]) -> LinesRead
+fn read_listing(l: &[u8]) -> Reading<Listed>
     ensures { result ≡ listing_told (compose l.now) }
 {
     let e = line_reader::reaching::reach(l, 0, layout::line::END);
     if e == l.len() {
         if e == 0 {
-            return LinesRead::Refused(fields::refuse(refusals::ENDS_EARLY, 0));
+            return Err(fields::refuse(refusals::ENDS_EARLY, 0));
         }
-        return LinesRead::Refused(fields::refuse(refusals::NO_LINE, 0));
+        return Err(fields::refuse(refusals::NO_LINE, 0));
     }
-    let a = header_line(&l[..e]);
-    let KindRead::Is(kind, _) = a else {
-        return LinesRead::Refused(a.why());
-    };
+    let kind = header_line(&l[..e])?;
     let mut space = [b' '; layout::length::LONGEST_C];
     read_payments(l, e + 1, kind, &mut space)
 }
@@ -274,18 +229,17 @@ pub fn compose(l: &[u8], out: &mut [u8]) -> Written
     ensures answer { result ≡ written_of (within (length out.old) (composed (compose l.now))) }
     ensures out { out.new ≡ filled (written (within (length out.old) (composed (compose l.now)))) out.old }
 {
-    let read = read_listing(l);
-    let LinesRead::Are(count, sums, size) = read else {
-        let why = read.why();
-        return output::refused(verdict::refuse(why.number, why.place));
+    let listed = match read_listing(l) {
+        Ok(listed) => listed,
+        Err(why) => return output::refused(why.into()),
     };
-    let length = A_AND_E + size;
+    let length = A_AND_E + listed.size;
     if out.len() < length {
         return output::refused(verdict::refuse(refusals::NO_ROOM, 0));
     }
-    write_file(l, count, sums, out);
+    write_file(l, listed.count, listed.sums, out);
     Written {
         verdict: verdict::ACCEPTED,
-        length: length,
+        length,
     }
 }

@@ -9,35 +9,23 @@ ghost use Rattle.line_reader.specs.Reaching.{reach};
 ghost use Rattle.composer.specs.Telling.{formed_as, line_formed, FormedLine, place_in};
 
 use layout::Cell;
+use line_reader::reaching;
 
 // In a payment's line of its form, how many fields stand ahead of the first text: the letter and the numbers, which have full width.
 pub(crate) const AHEAD_OF_TEXTS: usize = 1 + layout::line::NUMBERS_OF_C;
 
-// Where the field at q ends: at the next tab, or where the line does. Fields are short, so it is looked for byte by byte.
+// Where the field at q ends: at the next tab, or where the line does. Fields are short, so the tab is near.
 fn field_end(x: &[u8], q: usize) -> usize
     ensures { result ≡ q + reach tab (drop q x.now) }
 {
-    let mut i = q;
-    while i < x.len() {
-        if x[i] == layout::line::TAB {
-            return i;
-        }
-        i += 1;
-    }
-    i
+    reaching::reach_near(x, q, layout::line::TAB)
 }
 
 // How many fields the line has, its letter among them.
 pub(crate) fn count_fields(x: &[u8]) -> usize
     ensures { result ≡ length (split tab x.now) }
 {
-    let mut fields = 1;
-    let mut e = field_end(x, 0);
-    while e < x.len() {
-        fields += 1;
-        e = field_end(x, e + 1);
-    }
-    fields
+    1 + x.iter().filter(|b| **b == layout::line::TAB).count()
 }
 
 // Where a line of a listing ends, and how many fields stand ahead of that from the place asked on.
@@ -115,19 +103,15 @@ pub(crate) fn formed(head: bool, n: usize, x: &[u8]) -> bool
         return false;
     }
     let mut q = layout::line::FIRST;
-    let mut i = 0;
-    loop {
+    for i in 0..n {
         let e = field_end(x, q);
         let c = layout::cell_at(head, i);
         if !field_formed(c, &x[q..e]) {
             return false;
         }
-        i += 1;
-        if i == n {
-            return true;
-        }
         q = e + 1;
     }
+    true
 }
 
 // Where in a line of the form of A, or of a C, the field stands that stands at place p of its record; 0 where the line does not tell that field.
@@ -136,16 +120,12 @@ pub(crate) fn place_of(head: bool, n: usize, x: &[u8], p: usize) -> usize
     ensures { result ≡ place_in head n (split tab x.now) p }
 {
     let mut q = layout::line::FIRST;
-    let mut i = 0;
-    loop {
+    for i in 0..n {
         let c = layout::cell_at(head, i);
         if p == c.place {
             return q;
         }
-        i += 1;
-        if i == n {
-            return 0;
-        }
         q = field_end(x, q) + 1;
     }
+    0
 }

@@ -50,3 +50,65 @@ module _ {X T : Type 0} (t : Telling X T) {a : Reading T} (p n : ℕ) (l : Look 
 -- the code has come to place p of the file f, and owes g: what the fields of m from there on give
 pub record Walk {A T N : Type 0} (t : Telling A T) (f : List ℕ) (g : Reading T) (m : Form N A) (p : ℕ) : Type 0 where
   pub owed : g ≡ of_read t (read_at m f p)
+
+module _ {A T N : Type 0} {t : Telling A T} {f : List ℕ} where
+  pub start : (m : Form N A) (p : ℕ) → Walk t f (of_read t (read_at m f p)) m p
+  start m p = record { owed = refl }
+
+  -- a field whose leaf has looked at its rules
+  module _ {g : Reading T} {ν : N} {κ : Kind} {rs : Value κ → List Rule} {next : Value κ → Form N A} {p : ℕ} (w : Walk t f g (field ν κ rs next) p) where
+    pub past_ruled : {v : Value κ} {q : ℕ} → (field_at κ rs f p ≡ has v) × (q ≡ p + width κ) → Walk t f g (next v) q
+    unfolding read_at
+    past_ruled s = record { owed = w.owed ∙ rw (s.0, s.1) }
+
+    pub stopped_ruled : {r : Refusal} → Fails (field_at κ rs f p) p r → Err r ≡ g
+    unfolding read_at of_read
+    stopped_ruled x = rw x.refusal (sym (w.owed ∙ rw x.lack))
+
+-- ---- a form that another reader reads
+
+-- another reader has read a form, and y is what it keeps of it
+pub record Reads {B S N : Type 0} (u : Telling B S) (x : Read N B) (y : S) : Type 0 where
+  pub value : B
+  pub place : ℕ
+  pub done : x ≡ done value place
+  pub given : y ≡ u value place
+
+module _ {B S N : Type 0} (u : Telling B S) {a : Reading S} (x : Read N B) (told : a ≡ of_read u x) where
+  pub reads : {y : S} → a ≡ Ok y → Reads u x y
+  unfolding of_read
+  reads {y} given = by x (sym told ∙ given)
+    where
+      by : (x : Read N B) → of_read u x ≡ Ok y → Reads u x y
+      by (done b q) e = record { value = b; place = q; done = refl; given = cc }
+      by (halt r) e = absurd cc
+
+  -- another reader has refused a form, and r is the refusal
+  pub halts : {r : Refusal} → a ≡ Err r → (z : reader.Refusal N) × (x ≡ halt z) × (r ≡ refusal_at z.reason z.place)
+  unfolding of_read
+  halts {r} given = by x (sym told ∙ given)
+    where
+      by : (x : Read N B) → of_read u x ≡ Err r → (z : reader.Refusal N) × (x ≡ halt z) × (r ≡ refusal_at z.reason z.place)
+      by (done b q) e = absurd cc
+      by (halt z) e = (z, refl, cc)
+
+module _ {A T N : Type 0} {t : Telling A T} {f : List ℕ} {B : Type 0} {g : Reading T} (m : Form N B) (k : B → Form N A) {p : ℕ} (w : Walk t f g (m >>= k) p) where
+  pub past_part : {b : B} {q : ℕ} → read_at m f p ≡ done b q → Walk t f g (k b) q
+  past_part e = record { owed = w.owed ∙ rw (read_bind m k f p, e) }
+
+  -- the refusal of the other reader is handed on
+  pub stopped_part : {S : Type 0} (u : Telling B S) {r : Refusal} → Err r ≡ of_read u (read_at m f p) → Err r ≡ g
+  unfolding of_read
+  stopped_part u told =
+      let h = halts u (read_at m f p) told refl in
+      rw (h.2) (sym (w.owed ∙ ap (of_read t) (read_bind m k f p ∙ ap (λ y. and_then y (λ a q. read_at (k a) f q)) h.1)))
+
+-- a form that only makes another value of what is read: its answer is owed as that of the form itself
+pub retold : {A B T N : Type 0} (t : Telling B T) (u : Telling A T) {f : List ℕ} {g : Reading T} (m : Form N A) (h : A → B) {p : ℕ}
+    → ((a : A) (q : ℕ) → t (h a) q ≡ u a q) → Walk t f g (m >>= λ a. ret (h a)) p → Walk u f g m p
+unfolding read_at of_read
+retold {A} {B} {N = N} t u {f} m h {p} same w = record { owed = w.owed ∙ ap (of_read t) (read_bind m (λ a. ret (h a)) f p) ∙ by (read_at m f p) }
+  where
+    by : (x : Read N A) → of_read t (and_then x (λ a q. done (h a) q)) ≡ of_read u x
+    by (done a q) = ap (λ y. Ok y) (same a q)
+    by (halt r) = refl

@@ -4,6 +4,7 @@
 ghost use Rattle.std.specs.Prelude.{◌≡◌, ◌+◌, ◌≤◌, min, length, replicate, nat_eq, nat_le};
 ghost use Rattle.form.specs.Kind.{fixed, digits, maybe, choice, every, blanks};
 ghost use Rattle.form.specs.Place.{look_at, field_at};
+ghost use Rattle.verdict.specs.Verdicts.{refusing};
 ghost use Rattle.document.specs.Signs.{zeros, sign};
 ghost use Rattle.document.specs.Rules.{file_kinds};
 ghost use Rattle.diskette.specs.Fields.{text27, rules_of_names};
@@ -11,6 +12,7 @@ ghost use Rattle.fields.specs.Answers.{refusal_of, why, of_field, passings, numb
 ghost use Rattle.fields.specs.Stretches.{BytesAt, SignsAt, widest, digits_of, number_in};
 
 use layout::width;
+use verdict::Verdict;
 
 pub mod fixed;
 pub mod refusals;
@@ -42,6 +44,15 @@ pub fn refuse(number: u8, place: usize) -> Refusal
     ensures { result ≡ refusal_of number place }
 {
     Refusal { number, place }
+}
+
+// The verdict of a call that is refused so.
+impl From<Refusal> for Verdict {
+    ghost from_gives = { λ why v. v ≡ refusing why.number why.place };
+
+    fn from(why: Refusal) -> Verdict {
+        verdict::refuse(why.number, why.place)
+    }
 }
 
 // Why reading refuses, for code that has taken its answer apart and found no content; 0 at 0 where it does not.

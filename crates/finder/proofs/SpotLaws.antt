@@ -31,6 +31,7 @@ use Rattle.finder.specs.Texts.{text_of, text_width, place_of, begun_at}
 use Rattle.finder.specs.Seeking.{found, has_text}
 use Rattle.finder.specs.Spots.{nowhere, standing, no_such, from_start, finding, find_at, if_text, if_begun, locating, locate_at}
 use Rattle.finder.proofs.BegunLaws.{start_inside, begun_there, found_some, found_none, text_told}
+use Rattle.finder.proofs.PlaceLaws.{longest_has}
 use Rattle.finder.proofs.TextLaws.{text_stands}
 
 -- ---- within the file
@@ -71,6 +72,12 @@ locate_within f start w = by (answer f) refl
     by (accepted d) e = begun_within f start w (begun_at start d.payments) (ap (λ a. begun_at start (payments_of a)) e)
 
 -- ---- once the check has answered
+
+-- the text stands in the file: its place is asked for by a text that the longest payment has, and it ends in the file
+pub record Located (f : List ℕ) (start : ℕ) (w : Wanted) : Type 0 where
+  pub longest : has_text w most_parts ≡ true
+  pub ends : start + place_of w + text_width ≤ length f
+  pub is : standing (start + place_of w) (start + place_of w + text_width) ≡ locate_at f start w
 
 module _ (f : List ℕ) {c : Checked} (told : c ≡ checked_of (outcome (answer f))) where
   -- the file is refused
@@ -131,18 +138,18 @@ module _ (f : List ℕ) {c : Checked} (told : c ≡ checked_of (outcome (answer 
         has_it : found (text_of w here.0) ≡ has_text w k
         has_it = text_told w here.0 ∙ ap (has_text w) (sym (parts ∙ parts_there stands))
 
-        pub few : k ≤ most_parts
+        few : k ≤ most_parts
         few = omega (arith, few_there stands, parts ∙ parts_there stands)
 
         pub locate_no_text : has_text w k ≡ false → no_such ≡ locate_at f start w
         locate_no_text e = sym (of_text ∙ ap (λ o. if_text o (start + place_of w)) (found_none (text_of w here.0) (has_it ∙ e)))
 
-        pub locate_text : has_text w k ≡ true → standing (start + place_of w) (start + place_of w + text_width) ≡ locate_at f start w
-        locate_text e =
+        -- the payment has the text
+        pub located : has_text w k ≡ true → Located f start w
+        located e =
             let t = found_some (text_of w here.0) (has_it ∙ e) in
-            sym (of_text ∙ ap (λ o. if_text o (start + place_of w)) t.1)
-
-        pub text_ends : has_text w k ≡ true → start + place_of w + text_width ≤ length f
-        text_ends e =
-            let t = found_some (text_of w here.0) (has_it ∙ e) in
-            (text_stands stands w t.0 t.1).inside
+            record {
+              longest = longest_has w k few e;
+              ends = (text_stands stands w t.0 t.1).inside;
+              is = sym (of_text ∙ ap (λ o. if_text o (start + place_of w)) t.1);
+            }

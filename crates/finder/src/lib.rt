@@ -49,11 +49,8 @@ fn start_of(s: &[u8], n: usize) -> usize
     ensures { get_elem? (starts (payments_of (answer s.now))) n ≡ some result }
 {
     let mut p = length::A;
-    let mut row = 0;
-    while row < n {
-        let k = parts::count_at(s, p);
-        p += layout::bytes_of(k);
-        row += 1;
+    for _row in 0..n {
+        p += layout::bytes_of(parts::count_at(s, p));
     }
     p
 }
@@ -64,14 +61,11 @@ fn begins(s: &[u8], n: usize, start: usize) -> bool
     ensures { result ≡ found (begun_at start (payments_of (answer s.now))) }
 {
     let mut p = length::A;
-    let mut row = 0;
-    while row < n {
+    for _row in 0..n {
         if p == start {
             return true;
         }
-        let k = parts::count_at(s, p);
-        p += layout::bytes_of(k);
-        row += 1;
+        p += layout::bytes_of(parts::count_at(s, p));
     }
     false
 }

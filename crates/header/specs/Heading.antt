@@ -9,17 +9,12 @@ use Rattle.document.specs.Calendar as calendar
 use Rattle.document.specs.Values as values
 use Rattle.document.specs.Rules.{file_kinds}
 use Rattle.diskette.specs.Fields.{Name, A1, A2, A3, A4, A5, A6, A7, A8, A9, A10, A11a, A11b, A11c, A12, must, text27, rules_a5, rules_a7, execution_of, rules_a11b, header}
-use Rattle.fields.specs.declared.Refusal.{Refusal}
-use Rattle.fields.specs.Answers.{refusal_of, Telling, kind_of}
+use Rattle.fields.specs.Answers.{Telling, kind_of}
 use Rattle.calendar.specs.Days.{day_from}
 use Rattle.dates.specs.Dates.{execution_in}
 use Rattle.header.specs.declared.Header.{Header}
-use Rattle.header.specs.declared.OpeningRead.{OpeningRead}
-use Rattle.header.specs.declared.OpeningRead.TheVariants as opened
-use Rattle.header.specs.declared.OrderRead.{OrderRead}
-use Rattle.header.specs.declared.OrderRead.TheVariants as ordered
-use Rattle.header.specs.declared.HeaderRead.{HeaderRead}
-use Rattle.header.specs.declared.HeaderRead.TheVariants as headed
+use Rattle.header.specs.declared.Opening as opened
+use Rattle.header.specs.declared.Order as ordered
 
 -- ---- A1 to A7
 
@@ -41,17 +36,12 @@ opening = do
   made ← get A7 (digits 6) rules_a7
   ret (record { file_kind = kind; bank_code = bank_code; sending_bank = sending_bank; file_sender = file_sender; made = of_ddmmyy made })
 
-abbrev pub openings : Telling Opening OpeningRead
-openings =
-    record {
-      gives = λ o q. opened.Is (kind_of o.file_kind) o.bank_code o.sending_bank (day_from o.made) q;
-      refuses = opened.Refused;
-    }
+-- what the code keeps of it
+abbrev pub opening_of : Opening → opened.Opening
+opening_of o = record { kind = kind_of o.file_kind; bank_code = o.bank_code; sending_bank = o.sending_bank; made = day_from o.made }
 
--- why an answer refuses; 0 at 0 where it does not
-abbrev pub opening_why : OpeningRead → Refusal
-opening_why (opened.Is k b c d q) = refusal_of 0 0
-opening_why (opened.Refused r) = r
+abbrev pub openings : Telling Opening (opened.Opening × ℕ)
+openings o q = (opening_of o, q)
 
 -- ---- A8 to A12
 
@@ -60,7 +50,7 @@ pub record Order : Type 0 where
   pub reference : ℕ
   pub execution : Option calendar.Day
 
-abbrev pub order : calendar.Day → Form Name Order
+unfoldable pub order : calendar.Day → Form Name Order
 order made = do
   must A8 (blanks 4)
   account ← any A9 (digits 10)
@@ -71,12 +61,11 @@ order made = do
   must A12 (ascii "1")
   ret (record { account = account; reference = reference; execution = execution_of execution })
 
-abbrev pub orders : Telling Order OrderRead
-orders = record { gives = λ x q. ordered.Is x.account x.reference (execution_in x.execution) q; refuses = ordered.Refused }
+abbrev pub order_of : Order → ordered.Order
+order_of x = record { account = x.account; reference = x.reference; execution = execution_in x.execution }
 
-abbrev pub order_why : OrderRead → Refusal
-order_why (ordered.Is a b x q) = refusal_of 0 0
-order_why (ordered.Refused r) = r
+abbrev pub orders : Telling Order (ordered.Order × ℕ)
+orders x q = (order_of x, q)
 
 -- ---- the whole header
 
@@ -99,6 +88,7 @@ behind_opening o = do
   ret (joined o x)
 
 pub in_stretches : header ≡ opening >>= behind_opening
+unfolding order
 in_stretches = refl
 
 -- what the code keeps of a header
@@ -114,9 +104,5 @@ header_of h =
       execution = execution_in h.execution;
     }
 
-abbrev pub headers : Telling values.Header HeaderRead
-headers = record { gives = λ h q. headed.Is (header_of h) q; refuses = headed.Refused }
-
-abbrev pub header_why : HeaderRead → Refusal
-header_why (headed.Is h q) = refusal_of 0 0
-header_why (headed.Refused r) = r
+abbrev pub headers : Telling values.Header (Header × ℕ)
+headers h q = (header_of h, q)

@@ -8,6 +8,7 @@ use Prim.Native.Nat.{ℕ, ◌+◌}
 use mathlib.Core.Path.{◌≡◌, refl, sym, ◌∙◌, subst}
 use mathlib.Core.Bool.{Bool, true, false, ◌&&◌, not}
 use mathlib.Core.List.{List}
+use Rattle.std.specs.Prelude.{Err}
 use lib.Dec.{T, leb, ltb}
 use borrow.Author.Tests.{not-true, not-false}
 use Rattle.form.specs.Kind.{digits}
@@ -20,11 +21,8 @@ use Rattle.document.specs.Rules.{bank_code_ok, customer_ok, key_ok, supplement_o
 use Rattle.diskette.specs.Fields.{rules_c4, rules_c5, rules_c6, rules_c7a, rules_c7b, rules_c10, rules_c11, rules_c12}
 use Rattle.layout.specs.Lines as line
 use Rattle.fields.specs.declared.Refusal.{Refusal}
-use Rattle.fields.specs.declared.Number.{Number}
-use Rattle.fields.specs.declared.Number.TheVariants as number
-use Rattle.fields.specs.Answers.{of_field, numbers}
+use Rattle.fields.specs.Answers.{Reading, of_field, numbers}
 use Rattle.fields.proofs.WalkLaws.{fails}
-use Rattle.fields.proofs.AnswerLaws.{numbers_told}
 use Rattle.sums.specs.declared.AccountSum.{AccountSum}
 use Rattle.sums.specs.declared.BankCodeSum.{BankCodeSum}
 use Rattle.sums.specs.declared.CentSum.{CentSum}
@@ -66,8 +64,8 @@ module _ (l : List ℕ) (q v : ℕ) where
 -- ---- where a number is none, or fails a test, no number keeps the rules
 
 -- where a number was refused, none is read
-pub no_number : {a : Number} (p n : ℕ) (x : Look ℕ) → a ≡ of_field numbers p n x → {r : Refusal} → a ≡ number.Refused r → {v : ℕ} → x ≡ has v → ⊥
-no_number p n x told given e = has_or_lacks (sym e ∙ (fails numbers_told p n x told given refl).lack)
+pub no_number : {a : Reading (ℕ × ℕ)} (p n : ℕ) (x : Look ℕ) → a ≡ of_field numbers p n x → {r : Refusal} → a ≡ Err r → {v : ℕ} → x ≡ has v → ⊥
+no_number p n x told given e = has_or_lacks (sym e ∙ (fails numbers p n x told given).lack)
 
 -- a test that is passed does not fail
 pub failed : {b : Bool} → T b → b ≡ false → ⊥

@@ -227,6 +227,3 @@ module _ {l : List ℕ} {p : ℕ} {letters : List ℕ} {count : ℕ} {sums new :
         added = sums_added sums new paid r.accounts_on r.banks_on a.cents_on;
         size = b ∙ ap (λ n. 128 * section n) parts ∙ sym (payment_length letters paid paid_legal);
       }
-
-  pub end_inside : e < length l
-  end_inside = told.inside

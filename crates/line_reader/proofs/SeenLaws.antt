@@ -4,6 +4,7 @@
 -- (`text_once`): so three texts, or parts, that stood there would begin with those that the code has seen, and where the code then said no they
 -- cannot go on (`none_behind_first`, `names_seen`, `behind_part`). The loop over the parts keeps both halves in `Followed`: what follows at q
 -- makes all parts with the k before it, and whatever all parts are, they go on at q.
+use Rattle.std.specs.Prelude.{Option, Some, None}
 use Prim.Native.Nat.{ℕ, suc, ◌+◌, ◌-◌, ◌≤◌, ◌<◌}
 use native.Mathlib.Omega.{arith}
 use native.Mathlib.Decide.{dec_le}
@@ -18,28 +19,12 @@ use Rattle.form.specs.Kind.{digits}
 use Rattle.form.specs.Reader.{has}
 use Rattle.form.specs.Place.{look_at}
 use Rattle.document.specs.Marks.{room_after, mark_ok}
-use Rattle.fields.specs.declared.Number.{Number}
-use Rattle.fields.specs.declared.Number.TheVariants as number
+use Rattle.std.specs.Prelude.{Ok}
 use Rattle.fields.specs.Answers as answers
 use Rattle.fields.proofs.AnswerLaws.{number_is}
-use Rattle.sums.specs.declared.Sums.{Sums}
 use Rattle.listing.specs.Lines.{tab, line_end, ends_in_blank}
-use Rattle.line_reader.specs.declared.NumbersSeen.{NumbersSeen}
-use Rattle.line_reader.specs.declared.NumbersSeen.TheVariants as numbers
-use Rattle.line_reader.specs.declared.TextSeen.{TextSeen}
-use Rattle.line_reader.specs.declared.TextSeen.TheVariants as text
-use Rattle.line_reader.specs.declared.PartSeen.{PartSeen}
-use Rattle.line_reader.specs.declared.PartSeen.TheVariants as part
-use Rattle.line_reader.specs.Lines.{Numbers, AllNumbers, signs_end, behind_tab, Text, Texts, ThreeTexts, Names, Part, OnePart, PartsTo, ended, more}
+use Rattle.line_reader.specs.Lines.{signs_end, behind_tab, Text, Texts, ThreeTexts, Names, Part, PartsTo, ended, more}
 use Rattle.line_reader.proofs.TextLaws.{text_long, text_once}
-
-pub numbers_is : {l : List ℕ} {p : ℕ} {letters : List ℕ} {sums : Sums} {a : NumbersSeen} → Numbers l p letters sums a → {new : Sums} → a ≡ numbers.Are new
-    → AllNumbers l p letters sums new
-numbers_is {l} {p} {letters} {sums} n given = subst (Numbers l p letters sums) given n
-
-pub numbers_none : {l : List ℕ} {p : ℕ} {letters : List ℕ} {sums : Sums} {a : NumbersSeen} → Numbers l p letters sums a → a ≡ numbers.No
-    → (new : Sums) → AllNumbers l p letters sums new → ⊥
-numbers_none {l} {p} {letters} {sums} n given = subst (Numbers l p letters sums) given n
 
 -- ---- a text
 
@@ -90,12 +75,6 @@ module _ (l : List ℕ) (q e : ℕ) (inside : q < length l) (to : e ≡ signs_en
           let here : get_or l q 0 ≡ 0x20 = sym (ap (λ j. get_or l j 0) n) ∙ blank in
           omega (arith, here, t.tab)
 
-pub text_is : {l : List ℕ} {q : ℕ} {a : TextSeen} → Texts l q a → {e : ℕ} → a ≡ text.To e → Text l q e
-text_is {l} {q} t given = subst (Texts l q) given t
-
-pub text_none : {l : List ℕ} {q : ℕ} {a : TextSeen} → Texts l q a → a ≡ text.No → (e : ℕ) → Text l q e → ⊥
-text_none {l} {q} t given = subst (Texts l q) given t
-
 -- ---- three texts
 
 -- the first of three texts was seen
@@ -124,9 +103,9 @@ module _ {l : List ℕ} {q first : ℕ} (a : Text l q first) where
     names_last : {e : ℕ} (t : ThreeTexts l q e) → Text l second e
     names_last {e} t = subst (λ n. Text l n e) (names_second t) t.C16
 
-    pub names_seen : q + 2 ≤ first → first + 2 ≤ second → (a : TextSeen) → Texts l second a → Names l q a
-    names_seen m n text.No none = λ e t. none e (names_last t)
-    names_seen m n (text.To e) c =
+    pub names_seen : q + 2 ≤ first → first + 2 ≤ second → (a : Option ℕ) → Texts l second a → Names l q a
+    names_seen m n None none = λ e t. none e (names_last t)
+    names_seen m n (Some e) c =
         record { first = first; second = second; C14a = a; c14a_some = m; C15 = b; c15_some = n; C16 = c }
 
 -- three texts stand at a place once
@@ -136,33 +115,27 @@ names_once t u = text_once (names_last u.C14a u.C15 t) u.C16
 -- ---- a part
 
 -- the number of a mark was read behind the tab at q
-module _ (l : List ℕ) (q : ℕ) {mark behind : ℕ} {a : Number} (told : a ≡ answers.of_field answers.numbers (q + 1) (q + 1 + 2) (look_at (digits 2) l (q + 1)))
-    (given : a ≡ number.Is mark behind) where
+module _ (l : List ℕ) (q : ℕ) {mark behind : ℕ} {a : answers.Reading (ℕ × ℕ)} (told : a ≡ answers.of_field answers.numbers (q + 1) (q + 1 + 2) (look_at (digits 2) l (q + 1)))
+    (given : a ≡ Ok (mark, behind)) where
   read : (look_at (digits 2) l (q + 1) ≡ has mark) × (behind ≡ q + 1 + 2)
   read = number_is (q + 1) (q + 1 + 2) (look_at (digits 2) l (q + 1)) told given
 
   here : behind ≡ q + 3
   here = omega (arith, read.1)
 
-  pub part_seen : {room e : ℕ} → get_or l q 0 ≡ tab → mark_ok room mark ≡ true → {s : TextSeen} → Texts l behind s → s ≡ text.To e → Part l q room mark e
-  part_seen {e = e} t may seen to =
-      record { tab = t; number = read.0; may = may; text = subst (λ (p : ℕ). Text l p e) here (text_is seen to) }
+  pub part_seen : {room e : ℕ} → get_or l q 0 ≡ tab → mark_ok room mark ≡ true → Text l behind e → Part l q room mark e
+  part_seen {e = e} t may seen =
+      record { tab = t; number = read.0; may = may; text = subst (λ (p : ℕ). Text l p e) here seen }
 
-  pub part_not_so : {room : ℕ} → mark_ok room mark ≡ false → (m e : ℕ) → Part l q room m e → ⊥
-  part_not_so {room} other m e p =
+  pub part_not_so : {room : ℕ} → mark_ok room mark ≡ false → (part : ℕ × ℕ) → Part l q room part.0 part.1 → ⊥
+  part_not_so {room} other part p =
       let i = read.0 in
       let j = p.number in
-      let same : m ≡ mark = cc in
+      let same : part.0 ≡ mark = cc in
       subst T (sym p.may ∙ ap (mark_ok room) same ∙ other) tt
 
-  pub part_no_text : {room : ℕ} {s : TextSeen} → Texts l behind s → s ≡ text.No → (m e : ℕ) → Part l q room m e → ⊥
-  part_no_text seen none m e p = text_none seen none e (subst (λ (n : ℕ). Text l n e) (sym here) p.text)
-
-pub part_is : {l : List ℕ} {q room : ℕ} {a : PartSeen} → OnePart l q room a → {mark e : ℕ} → a ≡ part.Is mark e → Part l q room mark e
-part_is {l} {q} {room} p given = subst (OnePart l q room) given p
-
-pub part_none : {l : List ℕ} {q room : ℕ} {a : PartSeen} → OnePart l q room a → a ≡ part.No → (mark e : ℕ) → Part l q room mark e → ⊥
-part_none {l} {q} {room} p given = subst (OnePart l q room) given p
+  pub part_no_text : {room : ℕ} → ((e : ℕ) → Text l behind e → ⊥) → (part : ℕ × ℕ) → Part l q room part.0 part.1 → ⊥
+  part_no_text none part p = none part.1 (subst (λ (n : ℕ). Text l n part.1) (sym here) p.text)
 
 -- ---- parts
 
@@ -200,16 +173,16 @@ module _ {l : List ℕ} {start q k room : ℕ} (f : Followed l start q k room) w
       subst (λ (i : ℕ). PartsTo l start 15 i q) n (f.all 0 q (ended h i))
 
   -- neither the line's end nor a part stands at q
-  pub followed_none : (get_or l q 0 ≡ line_end → ⊥) → ((m e : ℕ) → Part l q room m e → ⊥) → (n e : ℕ) → PartsTo l start 15 n e → ⊥
-  followed_none end none n e ps = by (f.only n e ps).1
+  pub followed_none : (get_or l q 0 ≡ line_end → ⊥) → ((part : ℕ × ℕ) → Part l q room part.0 part.1 → ⊥) → (parts : ℕ × ℕ) → PartsTo l start 15 parts.0 parts.1 → ⊥
+  followed_none end none parts ps = by (f.only _ _ ps).1
     where
       by : {j e : ℕ} → PartsTo l q room j e → ⊥
       by (ended h i) = end i
-      by (more p others) = none _ _ p
+      by (more p others) = none _ p
 
   -- the listing is over at q
-  pub followed_over : length l ≤ q → (n e : ℕ) → PartsTo l start 15 n e → ⊥
-  followed_over h n e ps = by (f.only n e ps).1
+  pub followed_over : length l ≤ q → (parts : ℕ × ℕ) → PartsTo l start 15 parts.0 parts.1 → ⊥
+  followed_over h parts ps = by (f.only _ _ ps).1
     where
       by : {j e : ℕ} → PartsTo l q room j e → ⊥
       by (ended g i) = omega arith

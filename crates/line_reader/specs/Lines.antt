@@ -1,6 +1,6 @@
 -- What is seen of a payment's line, stretch by stretch: it is in order, or, where the code says no, none that is in order stands there. Only
 -- private functions go by this; what the walk as a whole tells is `line_seen`.
-use Rattle.std.specs.Prelude.{ℕ, zero, suc, ◌+◌, ◌-◌, ◌≤◌, ◌<◌, ◌≡◌, Bool, true, ◌&&◌, not, cond, List, [], ◌∷◌, length, take, drop, get_or, T, eqb}
+use Rattle.std.specs.Prelude.{ℕ, zero, suc, Option, MatchOption, ◌+◌, ◌-◌, ◌≤◌, ◌<◌, ◌≡◌, Bool, true, ◌&&◌, not, cond, List, [], ◌∷◌, length, take, drop, get_or, T, eqb}
 use Rattle.form.specs.Kind.{digits}
 use Rattle.form.specs.Reader.{has}
 use Rattle.form.specs.Place.{look_at, field_at}
@@ -15,18 +15,10 @@ use Rattle.sums.specs.declared.BankCodeSum.{BankCodeSum}
 use Rattle.sums.specs.declared.CentSum.{CentSum}
 use Rattle.sums.specs.declared.Sums.{Sums}
 use Rattle.listing.specs.Lines.{tab, line_end, ends_in_blank}
-use Rattle.line_reader.specs.declared.ReceiverSeen.{ReceiverSeen}
-use Rattle.line_reader.specs.declared.ReceiverSeen.TheVariants as receiver
-use Rattle.line_reader.specs.declared.AmountSeen.{AmountSeen}
-use Rattle.line_reader.specs.declared.AmountSeen.TheVariants as amount
-use Rattle.line_reader.specs.declared.NumbersSeen.{NumbersSeen}
-use Rattle.line_reader.specs.declared.NumbersSeen.TheVariants as numbers
-use Rattle.line_reader.specs.declared.TextSeen.{TextSeen}
-use Rattle.line_reader.specs.declared.TextSeen.TheVariants as text
-use Rattle.line_reader.specs.declared.PartSeen.{PartSeen}
-use Rattle.line_reader.specs.declared.PartSeen.TheVariants as part
-use Rattle.line_reader.specs.declared.PartsSeen.{PartsSeen}
-use Rattle.line_reader.specs.declared.PartsSeen.TheVariants as parts
+
+-- what was found has P; where nothing was found, there is nothing that has P
+abbrev pub Found : {A : Type 0} → (A → Type 0) → Option A → Type 0
+Found {A} P o = MatchOption o ((x : A) → P x → ⊥) P
 
 -- ---- the numbers of the line at p
 
@@ -56,9 +48,8 @@ pub record Receiver (l : List ℕ) (p : ℕ) (letters : List ℕ) (accounts bank
   pub accounts_on : a ≡ record { 0 = accounts + fields.account }
   pub banks_on : b ≡ record { 0 = banks + fields.bank_code }
 
-abbrev pub Receivers : List ℕ → ℕ → List ℕ → ℕ → ℕ → ReceiverSeen → Type 0
-Receivers l p letters accounts banks receiver.No = (a : AccountSum) (b : BankCodeSum) → Receiver l p letters accounts banks a b → ⊥
-Receivers l p letters accounts banks (receiver.Is a b) = Receiver l p letters accounts banks a b
+abbrev pub Receivers : List ℕ → ℕ → List ℕ → ℕ → ℕ → Option (AccountSum × BankCodeSum) → Type 0
+Receivers l p letters accounts banks = Found (λ on. Receiver l p letters accounts banks on.0 on.1)
 
 -- C10 to C12 keep the rules, and the sum goes on to c
 pub record Amount (l : List ℕ) (p cents : ℕ) (c : CentSum) : Type 0 where
@@ -68,9 +59,8 @@ pub record Amount (l : List ℕ) (p cents : ℕ) (c : CentSum) : Type 0 where
   pub C12 : field_at (digits 11) (rules_c12 cents) l (p + line.C12) ≡ has fields.cents
   pub cents_on : c ≡ record { 0 = cents + fields.cents }
 
-abbrev pub Amounts : List ℕ → ℕ → ℕ → AmountSeen → Type 0
-Amounts l p cents amount.No = (c : CentSum) → Amount l p cents c → ⊥
-Amounts l p cents (amount.Is c) = Amount l p cents c
+abbrev pub Amounts : List ℕ → ℕ → ℕ → Option CentSum → Type 0
+Amounts l p cents = Found (Amount l p cents)
 
 -- all numbers and the tabs between them, and the sums go on to new
 pub record AllNumbers (l : List ℕ) (p : ℕ) (letters : List ℕ) (sums new : Sums) : Type 0 where
@@ -79,9 +69,8 @@ pub record AllNumbers (l : List ℕ) (p : ℕ) (letters : List ℕ) (sums new : 
   pub receiver : Receiver l p letters sums.accounts.0 sums.banks.0 new.accounts new.banks
   pub amount : Amount l p sums.cents.0 new.cents
 
-abbrev pub Numbers : List ℕ → ℕ → List ℕ → Sums → NumbersSeen → Type 0
-Numbers l p letters sums numbers.No = (new : Sums) → AllNumbers l p letters sums new → ⊥
-Numbers l p letters sums (numbers.Are new) = AllNumbers l p letters sums new
+abbrev pub Numbers : List ℕ → ℕ → List ℕ → Sums → Option Sums → Type 0
+Numbers l p letters sums = Found (AllNumbers l p letters sums)
 
 -- ---- texts
 
@@ -106,9 +95,8 @@ pub record Text (l : List ℕ) (q e : ℕ) : Type 0 where
   pub to : e ≡ signs_end l (q + 1)
   pub ends : T (not (ends_in_blank (behind_tab l q e)))
 
-abbrev pub Texts : List ℕ → ℕ → TextSeen → Type 0
-Texts l q text.No = (e : ℕ) → Text l q e → ⊥
-Texts l q (text.To e) = Text l q e
+abbrev pub Texts : List ℕ → ℕ → Option ℕ → Type 0
+Texts l q = Found (Text l q)
 
 -- three texts one behind the other, from the tab at q up to e, the first two not empty
 pub record ThreeTexts (l : List ℕ) (q e : ℕ) : Type 0 where
@@ -120,9 +108,8 @@ pub record ThreeTexts (l : List ℕ) (q e : ℕ) : Type 0 where
   pub c15_some : first + 2 ≤ second
   pub C16 : Text l second e
 
-abbrev pub Names : List ℕ → ℕ → TextSeen → Type 0
-Names l q text.No = (e : ℕ) → ThreeTexts l q e → ⊥
-Names l q (text.To e) = ThreeTexts l q e
+abbrev pub Names : List ℕ → ℕ → Option ℕ → Type 0
+Names l q = Found (ThreeTexts l q)
 
 -- ---- parts
 
@@ -133,15 +120,13 @@ pub record Part (l : List ℕ) (q room mark e : ℕ) : Type 0 where
   pub may : mark_ok room mark ≡ true
   pub text : Text l (q + (1 + width.mark)) e
 
-abbrev pub OnePart : List ℕ → ℕ → ℕ → PartSeen → Type 0
-OnePart l q room part.No = (mark e : ℕ) → Part l q room mark e → ⊥
-OnePart l q room (part.Is mark e) = Part l q room mark e
+abbrev pub OnePart : List ℕ → ℕ → ℕ → Option (ℕ × ℕ) → Type 0
+OnePart l q room = Found (λ part. Part l q room part.0 part.1)
 
 -- k parts from q on, and then the line's end at e
 pub data PartsTo (l : List ℕ) : ℕ → ℕ → ℕ → ℕ → Type 0 where
   ended : {q room : ℕ} → q < length l → get_or l q 0 ≡ line_end → PartsTo l q room 0 q
   more : {q room mark r k e : ℕ} → Part l q room mark r → PartsTo l r (room_after mark room) k e → PartsTo l q room (suc k) e
 
-abbrev pub AllParts : List ℕ → ℕ → PartsSeen → Type 0
-AllParts l q parts.No = (k e : ℕ) → PartsTo l q most_parts k e → ⊥
-AllParts l q (parts.Are k e) = PartsTo l q most_parts k e
+abbrev pub AllParts : List ℕ → ℕ → Option (ℕ × ℕ) → Type 0
+AllParts l q = Found (λ parts. PartsTo l q most_parts parts.0 parts.1)

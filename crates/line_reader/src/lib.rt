@@ -11,9 +11,9 @@ ghost use Rattle.listing.specs.Lines.{line_end, split};
 ghost use Rattle.line_reader.specs.Lines.{parted, Receivers, Amounts, Numbers, signs_end, Texts, Names, OnePart, AllParts};
 ghost use Rattle.line_reader.specs.Told.{line_seen};
 
-use fields::{FileKind, Number, fixed};
+use fields::{FileKind, fixed};
 use layout::{line, width};
-use sums::{AccountSum, AccountsAdded, BankCodeSum, BankCodesAdded, CentSum, CentsAdded, Sums};
+use sums::{AccountSum, BankCodeSum, CentSum, Sums};
 
 pub mod reaching;
 
@@ -23,53 +23,12 @@ const LETTER: u8 = fixed::LETTER_C[0];
 // The permitted signs of the 64 bytes from the blank on, a bit for each by its last six bits. The sharp s stands behind them.
 const SIGNS: u64 = 0x03FF_FC71_3FFF_FFFE;
 
-// The sums with a payment's account number and bank code.
+// What is seen of a payment's line: the sums with the payment, its bytes in the file, and the place behind its line.
 #[derive(Clone, Copy)]
-enum ReceiverSeen {
-    No,
-    Is(AccountSum, BankCodeSum),
-}
-
-// The sum with a payment's cents.
-#[derive(Clone, Copy)]
-enum AmountSeen {
-    No,
-    Is(CentSum),
-}
-
-// The sums with all numbers of a payment.
-#[derive(Clone, Copy)]
-enum NumbersSeen {
-    No,
-    Are(Sums),
-}
-
-// The place behind a text, or behind the three that every payment has.
-#[derive(Clone, Copy)]
-enum TextSeen {
-    No,
-    To(usize),
-}
-
-// The mark of a part, and the place behind the part.
-#[derive(Clone, Copy)]
-enum PartSeen {
-    No,
-    Is(u64, usize),
-}
-
-// How many parts there are, and where the line ends.
-#[derive(Clone, Copy)]
-enum PartsSeen {
-    No,
-    Are(usize, usize),
-}
-
-// The sums with the payment, its bytes in the file, and the place behind its line.
-#[derive(Clone, Copy)]
-pub enum LineSeen {
-    No,
-    Is(Sums, usize, usize),
+pub struct SeenLine {
+    pub sums: Sums,
+    pub bytes: usize,
+    pub next: usize,
 }
 
 // The letter at p, and tabs behind it and behind each number but the last.
@@ -88,111 +47,94 @@ fn parted(l: &[u8], p: usize) -> bool
     (letter & receiver) & (keys & amount)
 }
 
-// C3 to C7b of the line at p.
+// C3 to C7b of the line at p: the sums with its account number and bank code.
 fn receiver_at(
     l: &[u8],
     p: usize,
     kind: FileKind,
     accounts: AccountSum,
     banks: BankCodeSum,
-) -> ReceiverSeen
+) -> Option<(AccountSum, BankCodeSum)>
     requires { p + tab_of_texts ≤ length l.now }
     ensures { Receivers l.now p (letters_of kind) accounts.0 banks.0 result }
 {
     let c3 = fields::number_at(l, p + line::C3, width::C3);
-    let Number::Is(_, _) = c3 else {
-        return ReceiverSeen::No;
+    let Ok((_, _)) = c3 else {
+        return None;
     };
     let c4 = fields::number_at(l, p + line::C4, width::C4);
-    let Number::Is(bank_code, _) = c4 else {
-        return ReceiverSeen::No;
+    let Ok((bank_code, _)) = c4 else {
+        return None;
     };
     let c5 = fields::number_at(l, p + line::C5, width::C5);
-    let Number::Is(account, _) = c5 else {
-        return ReceiverSeen::No;
+    let Ok((account, _)) = c5 else {
+        return None;
     };
     let c6 = fields::number_at(l, p + line::C6, width::C6);
-    let Number::Is(customer, _) = c6 else {
-        return ReceiverSeen::No;
+    let Ok((customer, _)) = c6 else {
+        return None;
     };
     let c7a = fields::number_at(l, p + line::C7A, width::C7A);
-    let Number::Is(key, _) = c7a else {
-        return ReceiverSeen::No;
+    let Ok((key, _)) = c7a else {
+        return None;
     };
     let c7b = fields::number_at(l, p + line::C7B, width::C7B);
-    let Number::Is(supplement, _) = c7b else {
-        return ReceiverSeen::No;
+    let Ok((supplement, _)) = c7b else {
+        return None;
     };
     let receiver = payment_fields::bank_code_ok(bank_code) & (account != 0);
     let keys = payment_fields::key_ok(kind, key) & payment_fields::supplement_ok(key, supplement);
     if !(receiver & payment_fields::customer_ok(customer) & keys) {
-        return ReceiverSeen::No;
+        return None;
     }
-    let new_accounts = accounts.add(account);
-    let AccountsAdded::Within(a) = new_accounts else {
-        return ReceiverSeen::No;
-    };
-    let new_banks = banks.add(bank_code);
-    let BankCodesAdded::Within(b) = new_banks else {
-        return ReceiverSeen::No;
-    };
-    ReceiverSeen::Is(a, b)
+    let new_accounts = accounts.add(account)?;
+    let new_banks = banks.add(bank_code)?;
+    Some((new_accounts, new_banks))
 }
 
-// C10 to C12 of the line at p.
-fn amount_at(l: &[u8], p: usize, cents: CentSum) -> AmountSeen
+// C10 to C12 of the line at p: the sum with its cents.
+fn amount_at(l: &[u8], p: usize, cents: CentSum) -> Option<CentSum>
     requires { p + tab_of_texts ≤ length l.now }
     ensures { Amounts l.now p cents.0 result }
 {
     let c10 = fields::number_at(l, p + line::C10, width::C10);
-    let Number::Is(bank_code, _) = c10 else {
-        return AmountSeen::No;
+    let Ok((bank_code, _)) = c10 else {
+        return None;
     };
     let c11 = fields::number_at(l, p + line::C11, width::C11);
-    let Number::Is(account, _) = c11 else {
-        return AmountSeen::No;
+    let Ok((account, _)) = c11 else {
+        return None;
     };
     let c12 = fields::number_at(l, p + line::C12, width::C12);
-    let Number::Is(v, _) = c12 else {
-        return AmountSeen::No;
+    let Ok((v, _)) = c12 else {
+        return None;
     };
     let sender = payment_fields::bank_code_ok(bank_code) & (account != 0);
     if !(sender & (v != 0)) {
-        return AmountSeen::No;
+        return None;
     }
-    let new_cents = cents.add(v);
-    let CentsAdded::Within(c) = new_cents else {
-        return AmountSeen::No;
-    };
-    AmountSeen::Is(c)
+    let new_cents = cents.add(v)?;
+    Some(new_cents)
 }
 
-// All numbers of the line at p, and the tabs between them.
-fn numbers_at(l: &[u8], p: usize, kind: FileKind, sums: Sums) -> NumbersSeen
+// All numbers of the line at p, and the tabs between them: the sums with these numbers.
+fn numbers_at(l: &[u8], p: usize, kind: FileKind, sums: Sums) -> Option<Sums>
     ensures { Numbers l.now p (letters_of kind) sums result }
 {
-    let accounts = sums.accounts;
-    let banks = sums.banks;
-    let cents = sums.cents;
     if !fields::whole(l.len(), p, line::C12_END) {
-        return NumbersSeen::No;
+        return None;
     }
     if !parted(l, p) {
-        return NumbersSeen::No;
+        return None;
     }
-    let receiver = receiver_at(l, p, kind, accounts, banks);
-    let ReceiverSeen::Is(new_accounts, new_banks) = receiver else {
-        return NumbersSeen::No;
+    let (accounts, banks) = receiver_at(l, p, kind, sums.accounts, sums.banks)?;
+    let cents = amount_at(l, p, sums.cents)?;
+    let new_sums = Sums {
+        accounts,
+        banks,
+        cents,
     };
-    let amount = amount_at(l, p, cents);
-    let AmountSeen::Is(new_cents) = amount else {
-        return NumbersSeen::No;
-    };
-    NumbersSeen::Are(Sums {
-        accounts: new_accounts,
-        banks: new_banks,
-        cents: new_cents,
-    })
+    Some(new_sums)
 }
 
 // Whether b is a permitted sign. Here bytes are tried one by one, and one look at the bits is less than the three ranges and two signs of
@@ -213,78 +155,68 @@ fn signs_end(l: &[u8], p: usize) -> usize
     if end - p > width::TEXT {
         end = p + width::TEXT;
     }
-    let mut i = p;
-    while i < end {
+    for i in p..end {
         if !is_sign(l[i]) {
-            break;
+            return i;
         }
-        i += 1;
     }
-    i
+    end
 }
 
-// The tab at q and the text behind it. A text that is empty is told from one that ends in a blank by its tab.
-fn text_at(l: &[u8], q: usize) -> TextSeen
+// The tab at q and the text behind it: the place behind the text. A text that is empty is told from one that ends in a blank by its tab.
+fn text_at(l: &[u8], q: usize) -> Option<usize>
     ensures { Texts l.now q result }
 {
     if q >= l.len() {
-        return TextSeen::No;
+        return None;
     }
     if l[q] != line::TAB {
-        return TextSeen::No;
+        return None;
     }
     let e = signs_end(l, q + 1);
     if l[e - 1] == b' ' {
-        return TextSeen::No;
+        return None;
     }
-    TextSeen::To(e)
+    Some(e)
 }
 
-// C14a, C15 and C16, each from its tab on, the first at q. The first two are not empty.
-fn names_at(l: &[u8], q: usize) -> TextSeen
+// C14a, C15 and C16, each from its tab on, the first at q: the place behind the three. The first two are not empty.
+fn names_at(l: &[u8], q: usize) -> Option<usize>
     ensures { Names l.now q result }
 {
-    let c14a = text_at(l, q);
-    let TextSeen::To(tab_of_c15) = c14a else {
-        return TextSeen::No;
-    };
+    let tab_of_c15 = text_at(l, q)?;
     if tab_of_c15 - q < 2 {
-        return TextSeen::No;
+        return None;
     }
-    let c15 = text_at(l, tab_of_c15);
-    let TextSeen::To(tab_of_c16) = c15 else {
-        return TextSeen::No;
-    };
+    let tab_of_c16 = text_at(l, tab_of_c15)?;
     if tab_of_c16 - tab_of_c15 < 2 {
-        return TextSeen::No;
+        return None;
     }
     text_at(l, tab_of_c16)
 }
 
-// A part, the tab of its mark at q, where so many parts may still stand, this one among them.
-fn part_at(l: &[u8], q: usize, room: u64) -> PartSeen
+// A part, the tab of its mark at q, where so many parts may still stand, this one among them: its mark, and the place behind the part.
+fn part_at(l: &[u8], q: usize, room: u64) -> Option<(u64, usize)>
     requires { q + 1 ≤ length l.now }
     ensures { OnePart l.now q room result }
 {
     if l[q] != line::TAB {
-        return PartSeen::No;
+        return None;
     }
     let read = fields::number_at(l, q + 1, width::MARK);
-    let Number::Is(mark, behind) = read else {
-        return PartSeen::No;
+    let Ok((mark, behind)) = read else {
+        return None;
     };
     if !parts::mark_ok(room, mark) {
-        return PartSeen::No;
+        return None;
     }
-    let words = text_at(l, behind);
-    let TextSeen::To(e) = words else {
-        return PartSeen::No;
-    };
-    PartSeen::Is(mark, e)
+    let e = text_at(l, behind)?;
+    Some((mark, e))
 }
 
-// The parts from `start` on, up to the line's end.
-fn parts_from(l: &[u8], start: usize) -> PartsSeen
+// The parts from `start` on, up to the line's end: how many there are, and where the line ends. A step goes on by a part, and not by one, so this
+// is no `for`.
+fn parts_from(l: &[u8], start: usize) -> Option<(usize, usize)>
     ensures { AllParts l.now start result }
 {
     let mut q = start;
@@ -292,39 +224,30 @@ fn parts_from(l: &[u8], start: usize) -> PartsSeen
     let mut room: u64 = parts::MOST_PARTS;
     while q < l.len() {
         if l[q] == line::END {
-            return PartsSeen::Are(k, q);
+            return Some((k, q));
         }
-        let next = part_at(l, q, room);
-        let PartSeen::Is(mark, e) = next else {
-            return PartsSeen::No;
-        };
+        let (mark, e) = part_at(l, q, room)?;
         room = parts::room_after(mark, room);
         k += 1;
         q = e;
     }
-    PartsSeen::No
+    None
 }
 
 // The payment whose line begins at p, in a file of this kind, after so many payments that come to these sums.
-pub fn read_line(l: &[u8], p: usize, kind: FileKind, count: u64, sums: Sums) -> LineSeen
+pub fn read_line(l: &[u8], p: usize, kind: FileKind, count: u64, sums: Sums) -> Option<SeenLine>
     ensures { result ≡ line_seen (letters_of kind) (totals_of count sums) sums p (split line_end (drop p l.now)) }
 {
     if count >= payment::MOST_PAYMENTS {
-        return LineSeen::No;
+        return None;
     }
-    let numbers = numbers_at(l, p, kind, sums);
-    let NumbersSeen::Are(new_sums) = numbers else {
-        return LineSeen::No;
+    let new_sums = numbers_at(l, p, kind, sums)?;
+    let first = names_at(l, p + line::C12_END)?;
+    let (k, e) = parts_from(l, first)?;
+    let seen = SeenLine {
+        sums: new_sums,
+        bytes: layout::bytes_of(k),
+        next: e + 1,
     };
-    let names = names_at(l, p + line::C12_END);
-    let TextSeen::To(first) = names else {
-        return LineSeen::No;
-    };
-    let parts = parts_from(l, first);
-    let PartsSeen::Are(k, e) = parts else {
-        return LineSeen::No;
-    };
-    let bytes = layout::bytes_of(k);
-    let next = e + 1;
-    LineSeen::Is(new_sums, bytes, next)
+    Some(seen)
 }

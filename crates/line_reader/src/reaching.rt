@@ -8,15 +8,25 @@ fn among_sixteen(s: &[u8], p: usize, z: u8) -> bool
     ensures { result ≡ false → reach z (drop p s.now) ≡ 16 + reach z (drop (p + 16) s.now) }
 {
     let mut found = false;
-    let mut j = 0;
-    while j < 16 {
+    for j in 0..16 {
         found = found | (s[p + j] == z);
-        j += 1;
     }
     found
 }
 
-// The place of the first z from p on, or the end where there is none: sixteen bytes at a time, then byte by byte.
+// The place of the first z from p on, or the end where there is none: byte by byte, for a z that is near.
+pub fn reach_near(s: &[u8], p: usize, z: u8) -> usize
+    ensures { result ≡ p + reach z (drop p s.now) }
+{
+    for i in p..s.len() {
+        if s[i] == z {
+            return i;
+        }
+    }
+    p.max(s.len())
+}
+
+// The same for a z that may be far: sixteen bytes at a time, then byte by byte.
 pub fn reach(s: &[u8], p: usize, z: u8) -> usize
     ensures { result ≡ p + reach z (drop p s.now) }
 {
@@ -27,11 +37,5 @@ pub fn reach(s: &[u8], p: usize, z: u8) -> usize
         }
         i += 16;
     }
-    while i < s.len() {
-        if s[i] == z {
-            return i;
-        }
-        i += 1;
-    }
-    i
+    reach_near(s, i, z)
 }

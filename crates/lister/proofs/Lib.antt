@@ -2,6 +2,7 @@ pub mod TrimLaws
 pub mod LineLaws
 pub mod PrintLaws
 pub mod NumberLaws
+pub mod PrintingLaws
 pub mod PartLaws
 pub mod RecordLaws
 pub mod ListingLaws

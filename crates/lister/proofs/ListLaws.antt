@@ -2,11 +2,11 @@
 use Prim.Native.Nat.{ℕ, ◌≤◌}
 use mathlib.Core.Path.{◌≡◌, refl, sym, ap, ◌∙◌}
 use mathlib.Core.Logic.{◌≢◌, ◌⊎◌, inl, inr, ⊎_elim}
-use mathlib.Core.Bool.{Bool, true, false, not}
+use mathlib.Core.Bool.{Bool, true, false}
 use mathlib.Core.List.{List, ◌∷◌}
 use lib.ListN.{length}
 use lib.Dec.{T, leb}
-use borrow.Author.Tests.{leb-true, leb-false, not-true, not-false}
+use borrow.Author.Tests.{leb-true, leb-false}
 use Rattle.form.specs.Kind.{one_of}
 use Rattle.form.specs.Reader.{Answer, accepted, refused}
 use Rattle.form.proofs.NumberLaws.{one_within}
@@ -84,8 +84,8 @@ module _ (file old : List ℕ) {c : Checked} (told : c ≡ checked_of (outcome (
 
     -- the test of the room says whether the listing can be written
     module _ {b : Bool} (e : b ≡ leb (length (listing_of file)) (length old)) where
-      pub list_no_room : not b ≡ true → {v : Verdict} → v ≡ refusing 16 0 → {r : Written} → r ≡ written_of (refuses v) → Says file old r old
-      list_no_room n w g = ends_short end old listing_written (leb-false (length (listing_of file)) (length old) (sym e ∙ not-true b n)) w g
+      pub list_no_room : b ≡ false → {v : Verdict} → v ≡ refusing 16 0 → {r : Written} → r ≡ written_of (refuses v) → Says file old r old
+      list_no_room n w g = ends_short end old listing_written (leb-false (length (listing_of file)) (length old) (sym e ∙ n)) w g
 
-      pub list_room : not b ≡ false → length (listing_of file) ≤ length old
-      list_room n = leb-true (length (listing_of file)) (length old) (sym e ∙ not-false b n)
+      pub list_room : b ≡ true → length (listing_of file) ≤ length old
+      list_room y = leb-true (length (listing_of file)) (length old) (sym e ∙ y)

@@ -1,8 +1,7 @@
--- A line printed into the output, field by field: what is still to come is written where the code stands, and the line is whole.
+-- Bytes printed into the output, stretch by stretch, and what the stretches of a line are.
 -- `Going` is kept from stretch to stretch: what is still to come, written where the code stands, makes the output what it was to become. A
 -- stretch that is printed goes off the front of what is still to come (`going_more`, by `over_next`), be it a field, all numbers, or mark and
--- text of a part (`rest_field`, `rest_numbers`, `rest_part`), and two ways are put together by `going_on`. Behind the last field the line's end
--- alone is still to come, and setting it makes the line whole (`line_ends`).
+-- text of a part (`rest_field`, `rest_numbers`, `rest_part`). Where nothing is still to come, all is written (`going_ends`).
 use Prim.Native.Nat.{ℕ, zero, suc, ◌+◌, ◌-◌, ◌≤◌, ◌<◌}
 use native.Mathlib.Nat.{add-zero}
 use native.Mathlib.Numerals.{add-one}
@@ -10,7 +9,7 @@ use native.Mathlib.Omega.{arith}
 use mathlib.Core.Path.{◌≡◌, refl, sym, ap, ap₂, subst, ◌∙◌}
 use mathlib.Core.Bool.{Bool, false}
 use mathlib.Core.List.{List, [], ◌∷◌, ◌++◌, append_assoc}
-use lib.ListN.{length, take, drop, set, get_elem?, length-append, length-take, length-set, drop_of_length-le}
+use lib.ListN.{length, take, drop, set, get_elem?, length-append, length-take, length-set}
 use lib.Seq.{take-take}
 use Rattle.form.specs.Kind.{width}
 use Rattle.listing.specs.Lines.{tab, line_end, behind_tabs, trim}
@@ -18,9 +17,9 @@ use Rattle.listing.specs.Records.{numbers_of_payment_line, fields_with, Cell, cu
 use Rattle.listing.proofs.LineLaws.{length_trim, trim_take}
 use Rattle.layout.specs.declared.Cell.{Cell as CodeCell}
 use Rattle.output.specs.Writing.{over, over_if_room}
-use Rattle.layout.specs.Cells.{letter_of, cells_of, cell_of, cell_at}
+use Rattle.layout.specs.Cells.{cells_of, cell_of, cell_at}
 use Rattle.output.proofs.OverLaws.{over_room, over_length, over_nothing, over_next, over_more}
-use Rattle.lister.specs.Printing.{line_at, Lies, printed_cell, FieldLies, printed_field, numbers_at, part_at}
+use Rattle.lister.specs.Printing.{Lies, printed_cell, FieldLies, printed_field, numbers_at, part_at}
 use Rattle.lister.proofs.LineLaws.{tabbed, part_is}
 
 -- ---- one field
@@ -49,7 +48,7 @@ module _ (head : Bool) (i : ℕ) (f : List ℕ) (p : ℕ) {c : CodeCell} (e : c 
   cell_full l = subst (λ (x : CodeCell). x.width ≡ length (printed_cell x f p)) (sym e) (sym l)
 
 -- a byte set is a byte written over
-set_over : (q b : ℕ) (old : List ℕ) → q < length old → set old q b ≡ over q (b ∷ []) old
+pub set_over : (q b : ℕ) (old : List ℕ) → q < length old → set old q b ≡ over q (b ∷ []) old
 set_over q b old h = ap₂ (λ o j. set o j b) (sym (over_nothing q old)) (sym (add-zero q)) ∙ over_more q b [] old (omega arith)
 
 -- a tab that is set, and bytes copied behind it, are both written
@@ -61,52 +60,39 @@ behind_tab_lem t old at h =
 
 -- ---- one stretch after another
 
--- `rest i` is what comes from field i on. The code went from field j, whose place was `from`, to field i at `at`: with what comes from there on,
--- the output is what it was to become
-pub record Going (rest : ℕ → List ℕ) (old : List ℕ) (from j : ℕ) (out : List ℕ) (at i : ℕ) : Type 0 where
+-- `rest i` is what comes from field i on. All of `whole` was to be written into `old` at q; the code went on to field i, at `at`: with what comes
+-- from there on, the output is what it was to become
+pub record Going (rest : ℕ → List ℕ) (whole old : List ℕ) (q : ℕ) (out : List ℕ) (at i : ℕ) : Type 0 where
   pub room : at + length (rest i) ≤ length out
   pub long : length out ≡ length old
-  pub place : at + length (rest i) ≡ from + length (rest j)
-  pub whole : over at (rest i) out ≡ over from (rest j) old
+  pub place : at + length (rest i) ≡ q + length whole
+  pub written : over at (rest i) out ≡ over q whole old
 
-module _ {rest : ℕ → List ℕ} where
-  pub going_on : {older old out : List ℕ} {q from at k j i : ℕ} → Going rest older q k old from j → Going rest old from j out at i
-      → Going rest older q k out at i
-  going_on a b = record { room = b.room; long = b.long ∙ a.long; place = b.place ∙ a.place; whole = b.whole ∙ a.whole }
+module _ {rest : ℕ → List ℕ} {whole old out : List ℕ} {q at i : ℕ} (g : Going rest whole old q out at i) where
+  -- where nothing more comes, all is written
+  pub going_ends : rest i ≡ [] → (at ≡ q + length whole) × (out ≡ over q whole old)
+  going_ends e =
+      let none : length (rest i) ≡ 0 = ap length e in
+      (omega (arith, g.place), sym (over_nothing at out) ∙ ap (λ bs. over at bs out) (sym e) ∙ g.written)
 
-  -- the way to a field, where the field is counted in another way
-  pub going_at : {old out : List ℕ} {from at j i k : ℕ} → Going rest old from j out at i → i ≡ k → Going rest old from j out at k
-  going_at {old} {out} {from} {at} {j} g e = subst (Going rest old from j out at) e g
+  -- a stretch comes, and then field k
+  module _ (t : List ℕ) (k : ℕ) (m : rest i ≡ t ++ rest k) where
+    longer : length (rest i) ≡ length t + length (rest k)
+    longer = ap length m ∙ length-append t (rest k)
 
-  module _ {old out : List ℕ} {from at j i : ℕ} (g : Going rest old from j out at i) where
-    -- a new way begins where this one has come to, as where the code goes on by another loop
-    pub going_start : Going rest out at i out at i
-    going_start = record { room = g.room; long = refl; place = refl; whole = refl }
+    pub going_room : at + length t ≤ length out
+    going_room = omega (arith, longer, g.room)
 
-    -- where nothing more comes, all is written
-    pub going_ends : rest i ≡ [] → (at ≡ from + length (rest j)) × (out ≡ over from (rest j) old)
-    going_ends e =
-        let none : length (rest i) ≡ 0 = ap length e in
-        (omega (arith, g.place), sym (over_nothing at out) ∙ ap (λ bs. over at bs out) (sym e) ∙ g.whole)
-
-    -- a stretch comes, and then field k
-    module _ (t : List ℕ) (k : ℕ) (m : rest i ≡ t ++ rest k) where
-      longer : length (rest i) ≡ length t + length (rest k)
-      longer = ap length m ∙ length-append t (rest k)
-
-      pub going_room : at + length t ≤ length out
-      going_room = omega (arith, longer, g.room)
-
-      pub going_more : {out' : List ℕ} {at' : ℕ} → at' ≡ at + length t → out' ≡ over at t out → Going rest old from j out' at' k
-      going_more {out'} {at'} e o =
-          let fits : at + (length t + length (rest k)) ≤ length out = omega (arith, longer, g.room) in
-          let same : length out' ≡ length out = ap length o ∙ over_length at t out (omega arith) in
-          record {
-            room = omega (arith, fits);
-            long = same ∙ g.long;
-            place = omega (arith, g.place, longer);
-            whole = ap₂ (λ q b. over q (rest k) b) e o ∙ over_next at t (rest k) out fits ∙ ap (λ bs. over at bs out) (sym m) ∙ g.whole;
-          }
+    pub going_more : {out' : List ℕ} {at' : ℕ} → at' ≡ at + length t → out' ≡ over at t out → Going rest whole old q out' at' k
+    going_more {out'} {at'} e o =
+        let fits : at + (length t + length (rest k)) ≤ length out = omega (arith, longer, g.room) in
+        let same : length out' ≡ length out = ap length o ∙ over_length at t out (omega arith) in
+        record {
+          room = omega (arith, fits);
+          long = same ∙ g.long;
+          place = omega (arith, g.place, longer);
+          written = ap₂ (λ j b. over j (rest k) b) e o ∙ over_next at t (rest k) out fits ∙ ap (λ bs. over at bs out) (sym m) ∙ g.written;
+        }
 
 -- ---- what comes of a line
 
@@ -129,27 +115,18 @@ cut_parted f p (c ∷ cs) (suc n) (suc m) h =
 abbrev pub numbers_from : List ℕ → ℕ → ℕ → List ℕ
 numbers_from f p i = tabbed f p (drop i (take numbers_of_payment_line (cells_of false)))
 
-pub numbers_more : (f : List ℕ) (p i : ℕ) → i < numbers_of_payment_line → numbers_from f p i ≡ (tab ∷ printed_field false i f p) ++ numbers_from f p (suc i)
-numbers_more f p i h = ap behind_tabs (cut_more f p (cells_of false) numbers_of_payment_line i h (omega arith))
+pub numbers_more : (f : List ℕ) (p i : ℕ) → i < numbers_of_payment_line → numbers_from f p i ≡ (tab ∷ printed_field false i f p) ++ numbers_from f p (i + 1)
+numbers_more f p i h = rw (add-one i) (ap behind_tabs (cut_more f p (cells_of false) numbers_of_payment_line i h (omega arith)))
 
 -- of a line what comes from field i on, with the line's end
 abbrev pub rest_of : Bool → ℕ → List ℕ → ℕ → ℕ → List ℕ
 rest_of head n f p i = tabbed f p (drop i (take n (cells_of head))) ++ (line_end ∷ [])
 
 module _ (head : Bool) (n : ℕ) (f : List ℕ) (p : ℕ) (l : Lies head n f p) where
-  rest_field : (i : ℕ) → i < n → rest_of head n f p i ≡ (tab ∷ printed_field head i f p) ++ rest_of head n f p (i + 1)
+  pub rest_field : (i : ℕ) → i < n → rest_of head n f p i ≡ (tab ∷ printed_field head i f p) ++ rest_of head n f p (i + 1)
   rest_field i h =
       rw (cut_more f p (cells_of head) n i h l.0, add-one i)
       (append_assoc (tab ∷ printed_field head i f p) (tabbed f p (drop (suc i) (take n (cells_of head)))) (line_end ∷ []))
-
-  -- the next field has room, and is printed
-  module _ {old out : List ℕ} {from at j i : ℕ} (g : Going (rest_of head n f p) old from j out at i) (h : i < n) where
-    pub field_room : at + suc (length (printed_field head i f p)) ≤ length out
-    field_room = going_room g (tab ∷ printed_field head i f p) (i + 1) (rest_field i h)
-
-    pub field_more : {out' : List ℕ} {at' : ℕ} → at' ≡ at + suc (length (printed_field head i f p)) → out' ≡ over at (tab ∷ printed_field head i f p) out
-        → Going (rest_of head n f p) old from j out' at' (i + 1)
-    field_more = going_more g (tab ∷ printed_field head i f p) (i + 1) (rest_field i h)
 
 -- the line of a payment has numbers first and parts last
 module _ (n : ℕ) (f : List ℕ) (p : ℕ) (l : Lies false n f p) where
@@ -167,46 +144,3 @@ module _ (n : ℕ) (f : List ℕ) (p : ℕ) (l : Lies false n f p) where
       rest_field false n f p l mark (omega arith)
       ∙ ap (λ bs. m ++ bs) (rest_field false n f p l (mark + 1) h ∙ ap (λ i. t ++ rest_of false n f p i) next)
       ∙ sym (append_assoc m t (rest_of false n f p (fields_with (part + 1))))
-
--- ---- the line
-
--- the line's end, set at its place, makes the line whole
-pub record Ended (head : Bool) (n : ℕ) (f : List ℕ) (p : ℕ) (old : List ℕ) (q : ℕ) (out : List ℕ) (at : ℕ) : Type 0 where
-  pub room : at < length out
-  pub long : length out ≡ length old
-  pub place : at + 1 ≡ q + length (line_at head n f p)
-  pub whole : set out at line_end ≡ over q (line_at head n f p) old
-
-module _ (head : Bool) (n : ℕ) (f : List ℕ) (p : ℕ) (old : List ℕ) (q : ℕ) (h : q + length (line_at head n f p) ≤ length old) (letter : ℕ)
-    (is : letter_of head ≡ letter ∷ []) where
-  abbrev fields : List ℕ
-  fields = rest_of head n f p 0
-
-  line_is : line_at head n f p ≡ letter ∷ fields
-  line_is = ap (λ bs. bs ++ fields) is
-
-  long_line : length (line_at head n f p) ≡ suc (length fields)
-  long_line = ap length line_is
-
-  -- behind the letter all fields are still to come
-  pub line_start : Going (rest_of head n f p) (set old q letter) (q + 1) 0 (set old q letter) (q + 1) 0
-  line_start = record { room = omega (arith, h, long_line, length-set old q letter); long = refl; place = refl; whole = refl }
-
-  -- behind the last field the line's end alone is still to come
-  pub line_ends : {out : List ℕ} {at i : ℕ} → n ≤ i → Going (rest_of head n f p) (set old q letter) (q + 1) 0 out at i → Ended head n f p old q out at
-  line_ends {out} {at} {i} e g =
-      let few : length (take n (cells_of head)) ≤ i = omega (arith, length-take n (cells_of head)) in
-      let none : rest_of head n f p i ≡ line_end ∷ []
-      = ap (λ cs. tabbed f p cs ++ (line_end ∷ [])) (drop_of_length-le (take n (cells_of head)) few) in
-      let one : length (rest_of head n f p i) ≡ 1 = ap length none in
-      record {
-        room = omega (arith, g.room);
-        long = g.long ∙ length-set old q letter;
-        place = omega (arith, g.place, long_line);
-        whole = set_over at line_end out (omega (arith, g.room))
-            ∙ ap (λ bs. over at bs out) (sym none)
-            ∙ g.whole
-            ∙ ap (over (q + 1) fields) (set_over q letter old (omega (arith, h, long_line)))
-            ∙ over_next q (letter ∷ []) fields old (omega (arith, h, long_line))
-            ∙ ap (λ bs. over q bs old) (sym line_is);
-      }

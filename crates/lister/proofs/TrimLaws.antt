@@ -1,5 +1,6 @@
--- A text without its trailing blanks, found from its end: what a loop over it keeps, and where it stops.
-use Prim.Native.Nat.{ℕ, suc, ◌-◌, ◌≤◌, ◌<◌}
+-- A text without its trailing blanks: it ends in the last byte that is no blank.
+use Prim.Native.Nat.{ℕ, zero, suc, ◌+◌, ◌-◌, ◌≤◌, ◌<◌}
+use native.Mathlib.Numerals.{add-one}
 use native.Mathlib.Omega.{arith}
 use mathlib.Core.Path.{◌≡◌, refl, sym, ap, ◌∙◌}
 use mathlib.Core.Logic.{◌≢◌}
@@ -29,32 +30,26 @@ trim_sign xs b e =
     last_byte (x ∷ []) = refl
     last_byte (x ∷ y ∷ ys) = last_byte (y ∷ ys)
 
--- the text has nothing but blanks from i on
-pub record Trimming (t : List ℕ) (i : ℕ) : Type 0 where
-  pub inside : i ≤ length t
-  pub rest : trim t ≡ trim (take i t)
+-- where the last d bytes are blanks, those before them have the same trimmed text
+blanks_off : (t : List ℕ) (d i : ℕ) → i + d ≡ length t → ((k : ℕ) → i ≤ k → k < length t → get_or t k 0 ≡ 0x20) → trim t ≡ trim (take i t)
+blanks_off t zero i e b = let whole : i ≡ length t = omega arith in ap trim (sym (ap (λ n. take n t) whole ∙ take-length t))
+blanks_off t (suc d) i e b =
+    let here : i < length t = omega arith in
+    blanks_off t d (suc i) (omega arith) (λ k h. b k (omega arith))
+    ∙ ap trim (take-suc t i 0 here)
+    ∙ ap (λ x. trim (take i t ++ (x ∷ []))) (b i (omega arith) here)
+    ∙ trim_blank (take i t)
 
-pub trim_start : (t : List ℕ) → Trimming t (length t)
-trim_start t = record { inside = omega arith; rest = ap trim (sym (take-length t)) }
-
-module _ {t : List ℕ} {i : ℕ} (w : Trimming t i) (h : 0 < i) where
-  one_fewer : take i t ≡ take (i - 1) t ++ (get_or t (i - 1) 0 ∷ [])
-  one_fewer =
-      let e : i ≡ suc (i - 1) = omega arith in
-      let l : i - 1 < length t = omega (arith, w.inside) in
-      ap (λ n. take n t) e ∙ take-suc t (i - 1) 0 l
-
-  pub trim_more : get_or t (i - 1) 0 ≡ 0x20 → Trimming t (i - 1)
-  trim_more b = record {
-    inside = omega (arith, w.inside);
-    rest = w.rest ∙ ap trim one_fewer ∙ ap (λ b. trim (take (i - 1) t ++ (b ∷ []))) b ∙ trim_blank (take (i - 1) t);
-  }
-
-  pub trim_stop : get_or t (i - 1) 0 ≢ 0x20 → i ≡ length (trim t)
-  trim_stop n =
-      let b = get_or t (i - 1) 0 in
-      sym (ap length (w.rest ∙ ap trim one_fewer ∙ trim_sign (take (i - 1) t) b (ne_eqb b 0x20 n) ∙ sym one_fewer) ∙ length-take-le i t w.inside)
-
-pub trim_all : {t : List ℕ} {i : ℕ} → Trimming t i → i ≤ 0 → 0 ≡ length (trim t)
+-- a text of blanks has no byte without them
+pub trims_all : (t : List ℕ) → ((k : ℕ) → k < length t → get_or t k 0 ≡ 0x20) → 0 ≡ length (trim t)
 unfolding trim
-trim_all {t} {i} w h = let e : i ≡ 0 = omega arith in sym (ap length w.rest ∙ rw e)
+trims_all t b = sym (ap length (blanks_off t (length t) 0 (omega arith) (λ k l. b k)))
+
+-- a text whose last byte that is no blank is byte i ends there without its trailing blanks
+pub trims_to : (t : List ℕ) (i : ℕ) → i < length t → ((k : ℕ) → i < k → k < length t → get_or t k 0 ≡ 0x20) → get_or t i 0 ≢ 0x20
+    → i + 1 ≡ length (trim t)
+trims_to t i h b s =
+    let last = get_or t i 0 in
+    let ends = take-suc t i 0 h in
+    let off = blanks_off t (length t - suc i) (suc i) (omega arith) (λ k l. b k (omega arith)) in
+    add-one i ∙ sym (ap length (off ∙ ap trim ends ∙ trim_sign (take i t) last (ne_eqb last 0x20 s) ∙ sym ends) ∙ length-take-le (suc i) t h)

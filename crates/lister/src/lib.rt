@@ -20,14 +20,10 @@ use output::Written;
 fn trimmed(t: &[u8]) -> usize
     ensures { result ≡ length (trim t.now) }
 {
-    let mut i = t.len();
-    while i > 0 {
-        if t[i - 1] != b' ' {
-            return i;
-        }
-        i -= 1;
+    match t.iter().rposition(|b| *b != b' ') {
+        Some(last) => last + 1,
+        None => 0,
     }
-    0
 }
 
 // The length of the line of the record at p, A or a C, with n fields behind its letter.
@@ -37,12 +33,10 @@ fn line_length(head: bool, n: usize, s: &[u8], p: usize) -> usize
 {
     // The letter and the line's end.
     let mut length = 2;
-    let mut i = 0;
-    while i < n {
+    for i in 0..n {
         let c = layout::cell_at(head, i);
         let a = p + c.place;
         length += 1 + trimmed(&s[a..a + c.width]);
-        i += 1;
     }
     length
 }
@@ -98,31 +92,24 @@ fn print_header(s: &[u8], out: &mut [u8]) -> usize
 {
     out[0] = output::letter(true);
     let mut at = 1;
-    let mut i = 0;
-    while i < line::FIELDS_OF_A {
+    for i in 0..line::FIELDS_OF_A {
         at = print_field(true, i, s, 0, out, at);
-        i += 1;
     }
     out[at] = line::END;
     at + 1
 }
 
-// Prints the numbers that the line of a payment begins with, `line::NUMBERS_OF_C` of them, and tells the place behind them. Each has a call of its
-// own, and no loop counts them, so that the compiler knows the width of each.
+// Prints the numbers that the line of a payment begins with, `line::NUMBERS_OF_C` of them, and tells the place behind them.
 fn print_numbers(s: &[u8], p: usize, out: &mut [u8], at: usize) -> usize
     requires { NumbersLie s.now p × (at + length (numbers_at s.now p) ≤ length out.old) }
     ensures place { result ≡ at + length (numbers_at s.now p) }
     ensures out { out.new ≡ over at (numbers_at s.now p) out.old }
 {
-    let mut q = print_number(0, s, p, out, at);
-    q = print_number(1, s, p, out, q);
-    q = print_number(2, s, p, out, q);
-    q = print_number(3, s, p, out, q);
-    q = print_number(4, s, p, out, q);
-    q = print_number(5, s, p, out, q);
-    q = print_number(6, s, p, out, q);
-    q = print_number(7, s, p, out, q);
-    print_number(8, s, p, out, q)
+    let mut q = at;
+    for i in 0..line::NUMBERS_OF_C {
+        q = print_number(i, s, p, out, q);
+    }
+    q
 }
 
 // Prints mark and text of a part of the payment at p, each behind a tab, and tells the place behind them. All parts have the same widths.
@@ -145,15 +132,11 @@ fn print_payment(k: usize, s: &[u8], p: usize, out: &mut [u8], q: usize) -> usiz
 {
     out[q] = output::letter(false);
     let mut at = print_numbers(s, p, out, q + 1);
-    let mut i = line::NUMBERS_OF_C;
-    while i < line::FIELDS_OF_C {
+    for i in line::NUMBERS_OF_C..line::FIELDS_OF_C {
         at = print_field(false, i, s, p, out, at);
-        i += 1;
     }
-    let mut part = 0;
-    while part < k {
+    for part in 0..k {
         at = print_part(part, s, p, out, at);
-        part += 1;
     }
     out[at] = line::END;
     at + 1
@@ -166,12 +149,10 @@ fn listing_length(s: &[u8], n: usize) -> usize
 {
     let mut total = line_length(true, line::FIELDS_OF_A, s, 0);
     let mut p = length::A;
-    let mut row = 0;
-    while row < n {
+    for _row in 0..n {
         let k = parts::count_at(s, p);
         total += line_length(false, line::FIELDS_OF_C + 2 * k, s, p);
         p += layout::bytes_of(k);
-        row += 1;
     }
     total
 }
@@ -196,12 +177,10 @@ fn print_listing(s: &[u8], n: usize, out: &mut [u8]) -> usize
 {
     let mut q = print_header(s, out);
     let mut p = length::A;
-    let mut row = 0;
-    while row < n {
+    for _row in 0..n {
         let k = parts::count_at(s, p);
         q = print_payment(k, s, p, out, q);
         p += layout::bytes_of(k);
-        row += 1;
     }
     q
 }

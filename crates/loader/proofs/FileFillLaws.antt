@@ -3,11 +3,12 @@
 -- `the_end`). The loop keeps `FileFilling`: the payments left stand at p, the totals so far and theirs together are those of all (`together`), and in
 -- each column the rows still to come make of it what all rows make of the old one. With E reached, none is left, and all of it is told.
 use Prim.Native.Nat.{ℕ, ◌+◌, ◌*◌, ◌≤◌, ◌<◌, min}
+use native.Mathlib.Nat.{zero-add}
 use native.Mathlib.Omega.{arith}
 use mathlib.Core.Path.{◌≡◌, refl, sym, ap, subst, ◌∙◌}
 use mathlib.Core.Logic.{◌≢◌}
 use mathlib.Core.List.{List, [], ◌∷◌, ◌++◌}
-use lib.ListN.{length, take, drop, get_or, set, length-append}
+use lib.ListN.{length, take, drop, get_or, set, length-append, length-map}
 use lib.Seq.{sets}
 use Rattle.form.specs.Reader.{number}
 use Rattle.form.specs.Place.{read_at}
@@ -25,9 +26,9 @@ use Rattle.diskette.proofs.LayoutLaws.{header_length, end_length}
 use Rattle.layout.specs.Places as place
 use Rattle.layout.specs.Widths as width
 use Rattle.layout.specs.Steps.{first_payment, parts_at}
-use Rattle.layout.proofs.PaymentLaws.{row, bytes_there}
+use Rattle.layout.proofs.PaymentLaws.{Row, row, bytes_there}
 use Rattle.layout.proofs.StandLaws.{Stand}
-use Rattle.layout.proofs.StepLaws.{Coming, fields_of_end, FileStands, file_stands, first_begun, letter_of_payment, letter_of_end, Next, next_of}
+use Rattle.layout.proofs.StepLaws.{some_bytes, Coming, fields_of_end, FileStands, file_stands, first_begun, letter_of_payment, letter_of_end, Next, next_of}
 use Rattle.sums.specs.declared.AccountSum.{AccountSum}
 use Rattle.sums.specs.declared.BankCodeSum.{BankCodeSum}
 use Rattle.sums.specs.declared.CentSum.{CentSum}
@@ -36,7 +37,8 @@ use Rattle.sums.specs.Sums.{sums_of, totals_of}
 use Rattle.loader.specs.declared.FileRows.{FileRows}
 use Rattle.loader.specs.Columns.{bank_codes, accounts, cents, starts_from, starts_in}
 use Rattle.loader.specs.Filling.{Within, plus, payments_read, rows_read, Fillable}
-use Rattle.loader.proofs.ColumnLaws.{ColumnFrom, column_from_start, column_from_more}
+use Rattle.loader.proofs.ColumnLaws.{Roomy, has_room, Filled, ColumnFrom, column_from_start, column_from_more, sets_filled}
+use Rattle.loader.proofs.FillLaws.{length_starts}
 
 pub same_sums : {a b : AccountSum} {c d : BankCodeSum} {e g : CentSum} → a ≡ b → c ≡ d → e ≡ g
     → ◌≡◌ {A = Sums} (record { accounts = a; banks = c; cents = e }) (record { accounts = b; banks = d; cents = g })
@@ -161,8 +163,12 @@ module _ {f : List ℕ} {begin first : ℕ} {columns : List (List ℕ)} (x : Fil
       pub next : Next f (Rows f begin first c4₀ c5₀ c12₀ start₀ c4 c5 c12 start count sums) i p w.left
       next = next_of w.left w.coming w.kept (letter.payment h)
 
+      -- its numbers stand in their fields
+      pub here : Row f p next.payment
+      here = row next.begun
+
       -- a row is still to come
-      pub one_more : i < first + length x.says.payments
+      one_more : i < first + length x.says.payments
       one_more =
           let n = ap (λ (t : Totals). t.count) next.kept.counted in
           let m = ap length payments_are in
@@ -175,7 +181,7 @@ module _ {f : List ℕ} {begin first : ℕ} {columns : List (List ℕ)} (x : Fil
         -- the totals with this payment, and those of the payments behind it
         more_counted : together (totals_of (count + 1) (plus sums account bank amount)) (totals next.others) ≡ totals (payments_at f begin)
         more_counted =
-            let r = row next.begun in
+            let r = here in
             rw (b ∙ r.bank_code.value, a ∙ r.account.value, m ∙ r.cents.value)
             (sym (together_more (totals_of count sums) next.payment next.others) ∙ next.kept.counted)
 
@@ -191,15 +197,19 @@ module _ {f : List ℕ} {begin first : ℕ} {columns : List (List ℕ)} (x : Fil
             }
 
         module _ {k step : ℕ} (told : k ≡ parts_at f p) (s : step ≡ 128 * section (min k most_parts)) where
-          pub stepped : step ≡ length (write_payment next.payment)
+          stepped : step ≡ length (write_payment next.payment)
           stepped = bytes_there next.begun told s
+
+          -- the place goes on, and stays inside
+          pub goes_on : (p < p + step) × (p + step ≤ length f)
+          goes_on = let e = stepped in let y = next in (omega (arith, some_bytes y.payment), omega (arith, y.inside))
 
           -- the numbers of the next payment go each into its column, and the place goes on by the bytes that the number of its parts tells
           pub file_fill_more : FileFilling f begin first c4₀ c5₀ c12₀ start₀ (set c4 i bank) (set c5 i account) (set c12 i amount) (set start i p) (p + step) (i + 1)
               (count + 1) (plus sums account bank amount)
           file_fill_more =
               let y = next in
-              let r = row y.begun in
+              let r = here in
               let kept = y.kept in
               let size = length-append (write_payment y.payment) (write_payments y.others) in
               record {
@@ -241,3 +251,40 @@ module _ {f : List ℕ} {begin first : ℕ} {columns : List (List ℕ)} (x : Fil
               ((rw none_left at kept.accounts_left).comes, ((rw none_left at kept.cents_left).comes, (rw none_left at kept.starts_left).comes)),
             ),
           )
+
+-- the next row is one of the columns, as they were and as they are
+pub record RowThere (c4₀ c5₀ c12₀ start₀ c4 c5 c12 start : List ℕ) (i : ℕ) : Type 0 where
+  pub was : Roomy (i + 1) c4₀ c5₀ c12₀ start₀
+  pub is : Roomy (i + 1) c4 c5 c12 start
+
+pub row_there : {f c4₀ c5₀ c12₀ start₀ c4 c5 c12 start : List ℕ} {begin first p i count : ℕ} {sums : Sums} (x : Fillable f begin first (c4₀ ∷ c5₀ ∷ c12₀ ∷ start₀ ∷ []))
+    → FileFilling f begin first c4₀ c5₀ c12₀ start₀ c4 c5 c12 start p i count sums → get_or f (p + place.C2) 0 ≡ 0x43 → RowThere c4₀ c5₀ c12₀ start₀ c4 c5 c12 start i
+row_there {first = first} x w h =
+    let n = one_more x w h in
+    let r = has_room (first + length x.says.payments) _ _ _ _ x.room in
+    let k = w.kept in
+    record {
+      was = record { c4 = omega (arith, r.c4); c5 = omega (arith, r.c5); c12 = omega (arith, r.c12); start = omega (arith, r.start) };
+      is = record {
+        c4 = omega (arith, r.c4, k.bank_codes_left.long);
+        c5 = omega (arith, r.c5, k.accounts_left.long);
+        c12 = omega (arith, r.c12, k.cents_left.long);
+        start = omega (arith, r.start, k.starts_left.long);
+      };
+    }
+
+-- rows written from the first on into columns that have room for all of them fill these
+pub filled_from_first : {f c4 c5 c12 start : List ℕ} → Fillable f 0 0 (c4 ∷ c5 ∷ c12 ∷ start ∷ [])
+    → {r : FileRows} {c4' c5' c12' start' : List ℕ} → FilledAt f 0 0 c4 c5 c12 start r c4' c5' c12' start' → Filled (payments_at f 0) c4 c5 c12 start c4' c5' c12' start'
+filled_from_first {f} {c4} {c5} {c12} {start} x g =
+    let ps = payments_at f 0 in
+    let room : Roomy (length ps) c4 c5 c12 start = rw (payments_are x) (has_room (length x.says.payments) c4 c5 c12 start (rw zero-add at x.room)) in (
+      g.1.0 ∙ sets_filled (bank_codes ps) c4 (rw (length-map ps (λ (y : Payment). y.bank_code)) room.c4),
+      (
+        g.1.1.0 ∙ sets_filled (accounts ps) c5 (rw (length-map ps (λ (y : Payment). y.account)) room.c5),
+        (
+          g.1.1.1.0 ∙ sets_filled (cents ps) c12 (rw (length-map ps (λ (y : Payment). y.cents)) room.c12),
+          g.1.1.1.1 ∙ sets_filled (starts_in 0 ps) start (rw (length_starts first_payment ps) room.start),
+        ),
+      ),
+    )

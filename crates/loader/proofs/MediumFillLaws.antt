@@ -60,6 +60,11 @@ has_table_room n a b c d e h =
       sum12 = leb→le n (length e) (and_both (leb n (length e)) _ y.1).0;
     }
 
+-- a row is one of the table, as it was and as it is
+pub record TableRowThere (begin₀ count₀ sum5₀ sum4₀ sum12₀ begin count sum5 sum4 sum12 : List ℕ) (file : ℕ) : Type 0 where
+  pub was : TableRoomy (file + 1) begin₀ count₀ sum5₀ sum4₀ sum12₀
+  pub is : TableRoomy (file + 1) begin count sum5 sum4 sum12
+
 -- all files of the medium
 abbrev pub files_in : List ℕ → List Document
 files_in f = files_of (medium_answer f)
@@ -170,13 +175,29 @@ module _ {f c4₀ c5₀ c12₀ start₀ begin₀ count₀ sum5₀ sum4₀ sum12�
     next_file = next_file_of w.left w.coming h
 
     -- the rows behind the file's, and those of the table behind its row
-    pub rows_behind : row + length next_file.says.payments + length (all_payments next_file.others) ≡ length (all_payments (files_in f))
+    rows_behind : row + length next_file.says.payments + length (all_payments next_file.others) ≡ length (all_payments (files_in f))
     rows_behind =
         let y = next_file in
         omega (arith, ap (λ ds. length (all_payments ds)) y.is, w.payments, length-append y.says.payments (all_payments y.others))
 
-    pub files_behind : file + 1 + length next_file.others ≡ length (files_in f)
+    files_behind : file + 1 + length next_file.others ≡ length (files_in f)
     files_behind = omega (arith, ap length next_file.is, w.files)
+
+    -- the table has a row for the file
+    pub table_row_there : TableRowThere begin₀ count₀ sum5₀ sum4₀ sum12₀ begin count sum5 sum4 sum12 file
+    table_row_there =
+        let n = files_behind in
+        let r = table_roomy x in
+        record {
+          was = record { begin = omega (arith, r.begin); count = omega (arith, r.count); sum5 = omega (arith, r.sum5); sum4 = omega (arith, r.sum4); sum12 = omega (arith, r.sum12) };
+          is = record {
+            begin = omega (arith, r.begin, w.file_starts_left.long);
+            count = omega (arith, r.count, w.file_counts_left.long);
+            sum5 = omega (arith, r.sum5, w.file_accounts_left.long);
+            sum4 = omega (arith, r.sum4, w.file_bank_codes_left.long);
+            sum12 = omega (arith, r.sum12, w.file_cents_left.long);
+          };
+        }
 
     pub may_fill_file : Fillable f p row (c4 ∷ c5 ∷ c12 ∷ start ∷ [])
     may_fill_file =
@@ -196,10 +217,18 @@ module _ {f c4₀ c5₀ c12₀ start₀ begin₀ count₀ sum5₀ sum4₀ sum12�
         still_room n a b c d = rw (le-leb n (length c4) a, le-leb n (length c5) b, le-leb n (length c12) c, le-leb n (length start) d)
 
     -- what the fill of the file's rows gives back
-    pub rows_told : {r : FileRows} → r ≡ rows_read (read_at document f p)
+    rows_told : {r : FileRows} → r ≡ rows_read (read_at document f p)
         → r ≡ record { count = length next_file.says.payments; sums = sums_of (totals next_file.says.payments); next = p + length (write next_file.says) }
     unfolding rows_read
     rows_told e = e ∙ ap rows_read next_file.read
+
+    -- the rows behind it fit, and the place goes on, and stays inside
+    pub goes_on : {r : FileRows} → r ≡ rows_read (read_at document f p) → (row + r.count ≤ length c4₀) × (p < r.next) × (r.next ≤ length f)
+    goes_on e =
+        let y = next_file in
+        let count = ap (λ (z : FileRows). z.count) (rows_told e) in
+        let next = ap (λ (z : FileRows). z.next) (rows_told e) in
+        (omega (arith, count, rows_behind, (columns_roomy x).c4), omega (arith, next, y.some), omega (arith, next, y.behind.inside))
 
     payments_told_lem : payments_at f p ≡ next_file.says.payments
     unfolding payments_read

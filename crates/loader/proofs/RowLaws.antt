@@ -8,14 +8,13 @@ use lib.ListN.{length, take, drop, get_or, get_elem?, length-append}
 use lib.Seq.{take_at, drop_at}
 use Rattle.document.specs.Values.{Payment, Document, totals}
 use Rattle.diskette.specs.Writing.{write_header, write_payment, write_payments, write_end, write}
-use Rattle.fields.proofs.AnswerLaws.{zero_one}
 use Rattle.loader.specs.Columns.{starts_from}
 
 pub is_some : {A : Type 0} {x y : A} → ◌≡◌ {A = Option A} (some x) (some y) → x ≡ y
 is_some e = cc
 
 pub not_some : {A : Type 0} {x : A} → ◌≡◌ {A = Option A} none (some x) → ⊥
-not_some e = zero_one cc
+not_some e = absurd cc
 
 -- an element of a list stands there too where more follows
 pub in_front : (l rest : List ℕ) (i : ℕ) {v : ℕ} → get_elem? l i ≡ some v → get_or (l ++ rest) i 0 ≡ v

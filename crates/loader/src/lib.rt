@@ -22,7 +22,7 @@ use checker::Checked;
 use fields::refusals;
 use layout::{at, length, width};
 use medium::MediumChecked;
-use sums::{AccountsAdded, BankCodesAdded, CentsAdded, Sums};
+use sums::Sums;
 
 // The number of w digits at p. The file has been accepted, so they are not tested again.
 fn known_number(s: &[u8], p: usize, w: usize) -> u64
@@ -30,61 +30,10 @@ fn known_number(s: &[u8], p: usize, w: usize) -> u64
     ensures { result ≡ number (take w (drop p s.now)) }
 {
     let mut v: u64 = 0;
-    let mut i = 0;
-    while i < w {
-        v = v * 10 + (s[p + i] as u64 - b'0' as u64);
-        i += 1;
+    for digit in &s[p..p + w] {
+        v = v * 10 + (*digit as u64 - b'0' as u64);
     }
     v
-}
-
-// Writes the rows of the n payments of an accepted file, from one payment to the next.
-fn fill(s: &[u8], n: usize, c4: &mut [u64], c5: &mut [u64], c12: &mut [u64], start: &mut [u64])
-    requires { (n ≡ length (payments_of (answer s.now))) × (have_room n (c4.old ∷ c5.old ∷ c12.old ∷ start.old ∷ []) ≡ true) }
-    ensures c4 { c4.new ≡ filled (bank_codes (payments_of (answer s.now))) c4.old }
-    ensures c5 { c5.new ≡ filled (accounts (payments_of (answer s.now))) c5.old }
-    ensures c12 { c12.new ≡ filled (cents (payments_of (answer s.now))) c12.old }
-    ensures start { start.new ≡ filled (starts (payments_of (answer s.now))) start.old }
-{
-    let mut p = length::A;
-    let mut row = 0;
-    while row < n {
-        let bank_code = known_number(s, p + at::C4, width::C4);
-        let account = known_number(s, p + at::C5, width::C5);
-        let cents = known_number(s, p + at::C12, width::C12);
-        let k = parts::count_at(s, p);
-        c4[row] = bank_code;
-        c5[row] = account;
-        c12[row] = cents;
-        start[row] = p as u64;
-        p += layout::bytes_of(k);
-        row += 1;
-    }
-}
-
-// Loads the payments of a file into four columns: C4, C5, C12, and the byte where the payment begins.
-pub fn load(s: &[u8], c4: &mut [u64], c5: &mut [u64], c12: &mut [u64], start: &mut [u64]) -> Checked
-    ensures answer { result ≡ checked_of (loading (c4.old ∷ c5.old ∷ c12.old ∷ start.old ∷ []) (answer s.now)) }
-    ensures c4 { c4.new ≡ filled (bank_codes (rows result s.now)) c4.old }
-    ensures c5 { c5.new ≡ filled (accounts (rows result s.now)) c5.old }
-    ensures c12 { c12.new ≡ filled (cents (rows result s.now)) c12.old }
-    ensures start { start.new ≡ filled (starts (rows result s.now)) start.old }
-{
-    let checked = checker::check(s);
-    if checked.verdict.number != 0 {
-        return checked;
-    }
-    let n = checked.count as usize;
-    let roomy = (n <= c4.len()) & ((n <= c5.len()) & ((n <= c12.len()) & (n <= start.len())));
-    if !roomy {
-        return Checked {
-            verdict: verdict::refuse(refusals::NO_ROOM, 0),
-            count: 0,
-            sums: sums::NO_SUMS,
-        };
-    }
-    fill(s, n, c4, c5, c12, start);
-    checked
 }
 
 // What the payments of one file come to, and the place behind its E.
@@ -104,15 +53,15 @@ fn plus_payment(sums: Sums, account: u64, code: u64, amount: u64) -> Sums
     let banks = sums.banks;
     let cents = sums.cents;
     let new_accounts = accounts.add(account);
-    let AccountsAdded::Within(a) = new_accounts else {
+    let Some(a) = new_accounts else {
         return sums::NO_SUMS;
     };
     let new_banks = banks.add(code);
-    let BankCodesAdded::Within(b) = new_banks else {
+    let Some(b) = new_banks else {
         return sums::NO_SUMS;
     };
     let new_cents = cents.add(amount);
-    let CentsAdded::Within(c) = new_cents else {
+    let Some(c) = new_cents else {
         return sums::NO_SUMS;
     };
     Sums {
@@ -122,7 +71,10 @@ fn plus_payment(sums: Sums, account: u64, code: u64, amount: u64) -> Sums
     }
 }
 
-// Writes the rows of the accepted file that begins at a place, from a row on: from one payment to the next, until E comes.
+// Writes the rows of the accepted file that begins at a place, from a row on: from one payment to the next, until E comes. Where the next payment
+// stands hangs on C18 of this one, and E alone ends them, so no range tells the places. It is inlined so that `load`, which has the sums from the
+// check, adds none up.
+#[inline(always)]
 fn fill_file(
     s: &[u8],
     begin: usize,
@@ -158,13 +110,40 @@ fn fill_file(
         count += 1;
     }
     FileRows {
-        count: count,
-        sums: sums,
+        count,
+        sums,
         next: p + length::E,
     }
 }
 
-// Writes the rows of all files of an accepted medium, and for each file its row of the table.
+// Loads the payments of a file into four columns: C4, C5, C12, and the byte where the payment begins.
+pub fn load(s: &[u8], c4: &mut [u64], c5: &mut [u64], c12: &mut [u64], start: &mut [u64]) -> Checked
+    ensures answer { result ≡ checked_of (loading (c4.old ∷ c5.old ∷ c12.old ∷ start.old ∷ []) (answer s.now)) }
+    ensures c4 { c4.new ≡ filled (bank_codes (rows result s.now)) c4.old }
+    ensures c5 { c5.new ≡ filled (accounts (rows result s.now)) c5.old }
+    ensures c12 { c12.new ≡ filled (cents (rows result s.now)) c12.old }
+    ensures start { start.new ≡ filled (starts (rows result s.now)) start.old }
+{
+    let checked = checker::check(s);
+    if checked.verdict.number != 0 {
+        return checked;
+    }
+    let n = checked.count as usize;
+    let roomy = (n <= c4.len()) & ((n <= c5.len()) & ((n <= c12.len()) & (n <= start.len())));
+    if !roomy {
+        return Checked {
+            verdict: verdict::refuse(refusals::NO_ROOM, 0),
+            count: 0,
+            sums: sums::NO_SUMS,
+        };
+    }
+    fill_file(s, 0, 0, c4, c5, c12, start);
+    checked
+}
+
+// Writes the rows of all files of an accepted medium, and for each file its row of the table. Where the next file begins hangs on what this one
+// held, so no range tells the places. The columns stand apart, as C lends them: in a struct, `fill_file` and this would owe for each column a clause
+// more, that the struct keeps its reference.
 fn fill_medium(
     s: &[u8],
     c4: &mut [u64],

@@ -5,6 +5,7 @@ use Prim.Native.Nat.{ℕ, zero, suc, ◌+◌, ◌*◌, ◌≤◌, ◌<◌}
 use native.Mathlib.Omega.{arith}
 use mathlib.Core.Path.{◌≡◌, refl, sym, ap, ◌∙◌}
 use mathlib.Core.List.{List, [], ◌∷◌}
+use Rattle.std.specs.Prelude.{Ok, Err}
 use lib.ListN.{length, length-append}
 use Rattle.form.specs.Reader.{Answer, accepted, refused}
 use Rattle.form.specs.Place.{read_at}
@@ -23,12 +24,11 @@ use Rattle.diskette.proofs.FileSays.{document_says}
 use Rattle.diskette.proofs.LayoutLaws.{file_takes}
 use Rattle.diskette.proofs.MediumPromises.{takes_a_byte}
 use Rattle.fields.specs.declared.Refusal.{Refusal}
+use Rattle.fields.specs.Answers.{Reading}
 use Rattle.fields.proofs.WalkLaws.{halts}
-use Rattle.sums.specs.declared.Sums.{Sums}
 use Rattle.checker.specs.declared.FileRead.{FileRead}
-use Rattle.checker.specs.declared.FileRead.TheVariants as file
-use Rattle.checker.specs.Checking.{file_why}
-use Rattle.checker.proofs.Laws.{owed, files_told}
+use Rattle.checker.specs.Checking.{files}
+use Rattle.checker.proofs.Laws.{owed}
 use Rattle.checker.proofs.CheckLaws.{was_read}
 use Rattle.medium.specs.declared.MediumChecked.{MediumChecked}
 use Rattle.medium.specs.Checking.{medium_checked_of, refused_with}
@@ -74,39 +74,39 @@ going_first f =
       rest = counted_none (files_at (length f) document f 0);
     }
 
-module _ {f : List ℕ} {n m p : ℕ} (g : Going f n m p) {a : FileRead} (told : a ≡ owed f p) where
+module _ {f : List ℕ} {n m p : ℕ} (g : Going f n m p) {a : Reading FileRead} (told : a ≡ owed f p) where
   -- the file at p is refused
-  pub going_refused : {x r : Refusal} → a ≡ file.Refused x → r ≡ file_why a → refused_with r ≡ medium_checked_of (medium_outcome (medium_answer f))
+  pub going_refused : {r : Refusal} → a ≡ Err r → refused_with r ≡ medium_checked_of (medium_outcome (medium_answer f))
   unfolding medium_outcome
-  going_refused given e =
-      let h = halts files_told (read_at document f p) told given e in
+  going_refused given =
+      let h = halts files (read_at document f p) told given in
       ap refused_with h.2
       ∙ ap medium_checked_of (sym (g.rest ∙ ap (counted n m) (files_halt document takes_a_byte Legal write document_says g.more f p h.0 h.1)))
 
-  module _ {count q : ℕ} {t : Sums} (given : a ≡ file.Is count t q) where
-    -- a file of so many payments lies between p and q
-    pub file_between : (p + (256 + 256 * count) ≤ q) × (q ≤ length f)
+  module _ {file : FileRead} (given : a ≡ Ok file) where
+    -- a file of so many payments lies between p and file.end
+    pub file_between : (p + (256 + 256 * file.count) ≤ file.end) × (file.end ≤ length f)
     file_between =
         let x = was_read f p told given in
-        let l = read_legal document Legal write document_says f p q x.0 x.1 in
-        let i = (read_inside document f p q x.0 g.inside x.1).1 in
-        let w = lies_between f (write x.0) p q g.inside i l.1 in
+        let l = read_legal document Legal write document_says f p file.end x.0 x.1 in
+        let i = (read_inside document f p file.end x.0 g.inside x.1).1 in
+        let w = lies_between f (write x.0) p file.end g.inside i l.1 in
         (omega (arith, file_takes x.0 l.0, x.2), i)
 
     -- it is the last
-    pub going_ends : length f ≤ q
-        → ◌≡◌ {A = MediumChecked} (record { verdict = accepting; files = n + 1; payments = m + count }) (medium_checked_of (medium_outcome (medium_answer f)))
+    pub going_ends : length f ≤ file.end
+        → ◌≡◌ {A = MediumChecked} (record { verdict = accepting; files = n + 1; payments = m + file.count }) (medium_checked_of (medium_outcome (medium_answer f)))
     going_ends h =
         let x = was_read f p told given in
-        let e : m + count ≡ m + length (all_payments (x.0 ∷ [])) = omega (arith, x.2, length-append x.0.payments []) in
+        let e : m + file.count ≡ m + length (all_payments (x.0 ∷ [])) = omega (arith, x.2, length-append x.0.payments []) in
         ap medium_checked_of
-        (figures refl e ∙ sym (g.rest ∙ ap (counted n m) (files_end document takes_a_byte Legal write document_says g.more f p q x.0 x.1 h)))
+        (figures refl e ∙ sym (g.rest ∙ ap (counted n m) (files_end document takes_a_byte Legal write document_says g.more f p file.end x.0 x.1 h)))
 
     -- another follows
-    pub going_more : q < length f → Going f (n + 1) (m + count) q
+    pub going_more : file.end < length f → Going f (n + 1) (m + file.count) file.end
     going_more h = by g.more g.enough g.rest
       where
-        by : (more : ℕ) → length f ≤ p + more → medium_outcome (medium_answer f) ≡ counted n m (files_at more document f p) → Going f (n + 1) (m + count) q
+        by : (more : ℕ) → length f ≤ p + more → medium_outcome (medium_answer f) ≡ counted n m (files_at more document f p) → Going f (n + 1) (m + file.count) file.end
         by zero l o = absurd (omega (arith, file_between.0))
         by (suc more) l o =
             let x = was_read f p told given in
@@ -117,6 +117,6 @@ module _ {f : List ℕ} {n m p : ℕ} (g : Going f n m p) {a : FileRead} (told :
               enough = omega (arith, b.0);
               few_files = omega (arith, b.0, g.few_files);
               few_payments = omega (arith, b.0, g.few_payments);
-              rest = o ∙ ap (counted n m) (files_more document takes_a_byte Legal write document_says more f p q x.0 x.1 h)
-                  ∙ counted_more n m x.0 (files_at more document f q) ∙ ap (λ k. counted (n + 1) (m + k) (files_at more document f q)) (sym x.2);
+              rest = o ∙ ap (counted n m) (files_more document takes_a_byte Legal write document_says more f p file.end x.0 x.1 h)
+                  ∙ counted_more n m x.0 (files_at more document f file.end) ∙ ap (λ k. counted (n + 1) (m + k) (files_at more document f file.end)) (sym x.2);
             }

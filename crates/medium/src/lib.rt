@@ -5,7 +5,6 @@ ghost use Rattle.std.specs.Prelude.{◌≡◌};
 ghost use Rattle.diskette.specs.Medium.{medium_answer, medium_outcome};
 ghost use Rattle.medium.specs.Checking.{medium_checked_of, refused_with};
 
-use checker::FileRead;
 use fields::Refusal;
 use verdict::Verdict;
 
@@ -21,7 +20,7 @@ fn refused(why: Refusal) -> MediumChecked
     ensures { result ≡ refused_with why }
 {
     MediumChecked {
-        verdict: verdict::refuse(why.number, why.place),
+        verdict: Verdict::from(why),
         files: 0,
         payments: 0,
     }
@@ -35,19 +34,19 @@ pub fn check_medium(s: &[u8]) -> MediumChecked
     let mut files: u64 = 0;
     let mut payments: u64 = 0;
     loop {
-        let a = checker::file_at(s, p);
-        let FileRead::Is(count, _, end) = a else {
-            return refused(a.why());
+        let file = match checker::file_at(s, p) {
+            Ok(file) => file,
+            Err(why) => return refused(why),
         };
         files += 1;
-        payments += count;
-        if end >= s.len() {
+        payments += file.count;
+        if file.end >= s.len() {
             return MediumChecked {
                 verdict: verdict::ACCEPTED,
-                files: files,
-                payments: payments,
+                files,
+                payments,
             };
         }
-        p = end;
+        p = file.end;
     }
 }

@@ -74,3 +74,6 @@ spelling_end {p = p} {w = w} {i = i} s h =
     let e : p + i ≡ p = omega arith in
     let k : s.count ≡ w = omega arith in
     s.holds ∙ rw (e, k)
+
+-- what a loop over the places needs: before it, at each digit, behind it
+pub ruleset digit_by_digit = (spelling_start, spelling_more, spelling_end)

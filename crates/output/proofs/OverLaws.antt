@@ -2,21 +2,15 @@
 use Prim.Native.Nat.{ℕ, suc, ◌+◌, ◌-◌, ◌≤◌}
 use native.Mathlib.Nat.{zero-add, add_assoc}
 use native.Mathlib.Omega.{arith}
-use mathlib.Core.Path.{◌≡◌, sym, ap, ap₂, ◌∙◌}
-use mathlib.Core.Bool.{Bool, true, not}
-use mathlib.Core.List.{List, [], ◌∷◌, ◌++◌, append_assoc, append-nil}
-use lib.ListN.{length, take, drop, get_or, set, length-append, take-append-drop, drop_of_length-le}
-use lib.Seq.{take-suc, append_snoc, set_at, take-append-add, drop-append-add, drop-drop, take_at, drop_at, length-take-le, sets, length-sets, sets-eq}
-use lib.Dec.{leb}
-use borrow.Author.Tests.{le-leb, not-true}
+use mathlib.Core.Path.{◌≡◌, sym, ap, ◌∙◌}
+use mathlib.Core.List.{List, [], ◌∷◌, ◌++◌, append_assoc}
+use lib.ListN.{length, take, drop, get_or, set, length-append, take-append-drop}
+use lib.Seq.{take-suc, append_snoc, set_at, take-append-add, drop-append-add, drop-drop, drop_at, length-take-le, sets, length-sets, sets-eq}
+use borrow.Rule.Slice.PartMut.{put_mid}
+use borrow.Author.Tests.{le-leb}
 use Rattle.output.specs.Writing.{over, over_if_room}
 
 -- ---- whether there is room
-
--- a test said that there is no room for w bytes
-pub no_room : (p w : ℕ) (bs old : List ℕ) {r : Bool} → length bs ≡ w → r ≡ leb (p + w) (length old) → not r ≡ true → over_if_room p bs old ≡ old
-unfolding over_if_room
-no_room p w bs old {r} l e f = rw (l, sym e ∙ not-true r f)
 
 module _ (p : ℕ) (bs old : List ℕ) where
   pub over_room : p + length bs ≤ length old → over_if_room p bs old ≡ over p bs old
@@ -38,16 +32,18 @@ over_nothing p old = let e : p + 0 ≡ p = omega arith in rw e (take-append-drop
 pub over_first : (bs old : List ℕ) → over 0 bs old ≡ bs ++ drop (length bs) old
 over_first bs old = rw zero-add
 
--- as many bytes as the output has take the place of all of it
-pub over_all : (bs old : List ℕ) → length bs ≡ length old → over 0 bs old ≡ bs
-over_all bs old e = let h : length old ≤ length bs = omega arith in over_first bs old ∙ rw (drop_of_length-le old h) (append-nil bs)
-
 pub over_here : (x bs old : List ℕ) → length x ≡ length bs → over 0 bs (x ++ old) ≡ bs ++ old
 over_here x bs old e = over_first bs (x ++ old) ∙ rw (drop_at x old (length bs) e)
 
 pub over_behind : (p : ℕ) (a bs old : List ℕ) → over (length a + p) bs (a ++ old) ≡ a ++ over p bs old
 over_behind p a bs old =
     rw (take-append-add a old p, add_assoc (length a) p (length bs), drop-append-add a old (p + length bs)) (append_assoc a (take p old) _)
+
+-- a part of the output, from p up to q, that holds other bytes now
+pub part_over : (p q : ℕ) (bs old : List ℕ) → q ≡ p + length bs → put_mid p (q - p) old bs ≡ over p bs old
+part_over p q bs old e =
+    let f : p + (q - p) ≡ p + length bs = omega arith in
+    ap (λ (l : List ℕ). take p old ++ (bs ++ l)) (drop-drop (q - p) p old ∙ ap (λ (n : ℕ). drop n old) f)
 
 -- ---- one after another
 
@@ -63,21 +59,6 @@ over_next p a b old h =
     ∙ ap (λ (l : List ℕ). sets l (p + length a) b) (sym (by_sets p a old (omega arith)))
     ∙ sets_append old p a b
     ∙ by_sets p (a ++ b) old (omega (arith, length-append a b))
-
--- writing over what was written
-pub over_again : (p : ℕ) (a b old : List ℕ) → p + length a ≤ length old → length a ≤ length b → over p b (over p a old) ≡ over p b old
-over_again p a b old h g =
-    let m = length b - length a in
-    let first = length-take-le p old (omega arith) in
-    let e : p + length b ≡ length (take p old) + (length a + m) = omega arith in
-    let f : p + length a + m ≡ p + length b = omega arith in
-    let behind : drop (p + length b) (over p a old) ≡ drop (p + length b) old
-    = ap (λ (n : ℕ). drop n (over p a old)) e
-    ∙ drop-append-add (take p old) (a ++ drop (p + length a) old) (length a + m)
-    ∙ drop-append-add a (drop (p + length a) old) m
-    ∙ drop-drop m (p + length a) old
-    ∙ ap (λ (n : ℕ). drop n old) f in
-    ap₂ (λ (x y : List ℕ). x ++ (b ++ y)) (take_at (take p old) (a ++ drop (p + length a) old) p first) behind
 
 -- a byte set right behind what was written
 pub over_more : (p b : ℕ) (bs old : List ℕ) → p + suc (length bs) ≤ length old

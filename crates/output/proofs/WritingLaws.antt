@@ -1,15 +1,18 @@
 -- Bytes written one by one from a place on, and the bytes of a field made wide.
-use Prim.Native.Nat.{ℕ, ◌+◌, ◌-◌, ◌≤◌, ◌<◌}
+use Prim.Native.Nat.{ℕ, ◌+◌, ◌-◌, ◌≤◌, ◌<◌, min}
+use borrow.Rule.Slice.PartMut.{put_mid}
 use native.Mathlib.Numerals.{add-one}
 use native.Mathlib.Omega.{arith}
-use mathlib.Core.Path.{◌≡◌, refl, sym, ◌∙◌}
-use mathlib.Core.List.{List, ◌++◌}
-use lib.ListN.{length, take, get_or, set, get_or-replicate, length-set, get_or-append}
-use lib.Seq.{take-suc, take_all, get_or-take, get_or-append-add, length-take-le}
+use native.Mathlib.Decide.{dec_lt}
+use mathlib.Core.Path.{◌≡◌, refl, sym, ap, ap₂, ◌∙◌}
+use mathlib.Core.List.{List, ◌++◌, append-nil}
+use lib.ListN.{length-replicate, length, take, get_or, set, length-set}
+use lib.Seq.{take-append-add, take-suc, take_all, length-take-le}
+use Rattle.std.proofs.lemmas.List.{take-append-le, take-replicate}
 use Rattle.form.specs.Kind.{blanks}
 use Rattle.listing.specs.Records.{pad}
 use Rattle.output.specs.Writing.{over}
-use Rattle.output.proofs.OverLaws.{over_nothing, over_again, over_more}
+use Rattle.output.proofs.OverLaws.{over_nothing, over_more, over_next, part_over}
 
 -- ---- byte by byte
 
@@ -39,26 +42,32 @@ writing_more {old} {bytes} {out} {p} {i} q b w h e f =
 pub writing_end : {old bytes out : List ℕ} {p i : ℕ} → Writing old p bytes out i → length bytes ≤ i → out ≡ over p bytes old
 writing_end {bytes = bytes} {i = i} w h = w.holds ∙ rw (take_all i bytes h)
 
--- what was written so far may be taken for what was there
-pub writing_on : {old bytes out : List ℕ} {p i : ℕ} → Writing old p bytes out i → Writing out p bytes out i
-writing_on {old} {bytes} {out} {p} {i} w =
-    let l = length-take-le i bytes w.inside in
-    let again = over_again p (take i bytes) (take i bytes) old (omega arith) (omega arith) in
-    record { room = omega arith; inside = w.inside; long = refl; holds = w.holds ∙ sym (rw w.holds again) }
-
-pub writing_both : {old bytes out new : List ℕ} {p i j : ℕ} → Writing old p bytes out i → Writing out p bytes new j → length bytes ≤ j → new ≡ over p bytes old
-writing_both {old} {bytes} {p = p} {i = i} w v h =
-    let l = length-take-le i bytes w.inside in
-    writing_end v h ∙ rw w.holds (over_again p (take i bytes) bytes old (omega arith) (omega arith))
-
 -- ---- a field made w wide
 
-module _ (w : ℕ) (t : List ℕ) where
-  pub pad_text : (i : ℕ) → i < w → i < length t → get_or (pad w t) i 0 ≡ get_or t i 0
-  pad_text i h l = get_or-take w (t ++ blanks w) i 0 h ∙ get_or-append t (blanks w) 0 i l
+-- the first n of its bytes are the text's own, where n is the lesser of the text's length and w, and behind them stand blanks
+pad_parts : (w n : ℕ) (t : List ℕ) → n ≡ min (length t) w → pad w t ≡ take n t ++ blanks (w - n)
+pad_parts w n t e = by (dec_lt w (length t))
+  where
+    by : Dec (w < length t) → pad w t ≡ take n t ++ blanks (w - n)
+    by (yes h) =
+        let whole : n ≡ w = omega arith in
+        let none : w - w ≡ 0 = omega arith in
+        rw (whole, none, append-nil) (take-append-le w t (blanks w) (omega arith))
+    by (no h) =
+        let all : n ≡ length t = omega arith in
+        let k = w - length t in
+        let f : w ≡ length t + k = omega arith in
+        rw (all, take_all (length t) t (omega arith))
+        (ap (λ (m : ℕ). take m (t ++ blanks w)) f ∙ take-append-add t (blanks w) k ∙ ap (λ (l : List ℕ). t ++ l) (take-replicate k w 0x20 (omega arith)))
 
-  pub pad_blank : (i : ℕ) → i < w → length t ≤ i → get_or (pad w t) i 0 ≡ 0x20
-  pad_blank i h l =
-      let e : length t + (i - length t) ≡ i = omega arith in
-      get_or-take w (t ++ blanks w) i 0 h
-      ∙ rw (← e) (get_or-append-add t (blanks w) (i - length t) 0 ∙ get_or-replicate w (i - length t) 0x20 0 (omega arith))
+-- the two parts written one behind the other
+pub pad_over : (p w n : ℕ) (t text rest old : List ℕ) → n ≡ min (length t) w → text ≡ take n t → rest ≡ blanks (w - n) → p + w ≤ length old
+    → put_mid (p + n) (p + w - (p + n)) (put_mid p (p + n - p) old text) rest ≡ over p (pad w t) old
+pad_over p w n t text rest old e f g h =
+    let l : length text ≡ n = ap length f ∙ length-take-le n t (omega arith) in
+    let m : length rest ≡ w - n = ap length g ∙ length-replicate (w - n) 0x20 in
+    let place : p + n ≡ p + length text = omega arith in
+    part_over (p + n) (p + w) rest _ (omega arith)
+    ∙ ap₂ (λ (q : ℕ) (o : List ℕ). over q rest o) place (part_over p (p + n) text old place)
+    ∙ over_next p text rest old (omega arith)
+    ∙ ap (λ (bs : List ℕ). over p bs old) (ap₂ (λ (a b : List ℕ). a ++ b) f g ∙ sym (pad_parts w n t e))

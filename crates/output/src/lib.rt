@@ -40,43 +40,31 @@ pub fn letter(head: bool) -> u8
 }
 
 // The field t made w wide, into the output from p on.
+#[tactic(auto, using(listing::proofs::LineLaws::pad_length, crate::proofs::WritingLaws::pad_over), unfolding(crate::specs::Writing::over_if_room))]
 pub fn put(out: &mut [u8], p: usize, t: &[u8], w: usize)
     ensures { out.new ≡ over_if_room p (pad w t.now) out.old }
 {
     if !fields::whole(out.len(), p, w) {
         return;
     }
-    let mut n = t.len();
-    if n > w {
-        n = w;
-    }
-    let mut i = 0;
-    while i < n {
-        let b = t[i];
-        out[p + i] = b;
-        i += 1;
-    }
-    while i < w {
-        out[p + i] = b' ';
-        i += 1;
-    }
+    let n = t.len().min(w);
+    out[p..p + n].copy_from_slice(&t[..n]);
+    out[p + n..p + w].fill(b' ');
 }
 
 // The bytes of t as they are, into the output from p on.
+#[tactic(auto, using(crate::proofs::OverLaws::part_over), unfolding(crate::specs::Writing::over_if_room))]
 pub fn copy(out: &mut [u8], p: usize, t: &[u8])
     ensures { out.new ≡ over_if_room p t.now out.old }
 {
     if !fields::whole(out.len(), p, t.len()) {
         return;
     }
-    let mut i = 0;
-    while i < t.len() {
-        out[p + i] = t[i];
-        i += 1;
-    }
+    out[p..p + t.len()].copy_from_slice(t);
 }
 
 // The last w digits of v, into the output from p on.
+#[tactic(auto, using(form::proofs::KindLaws::numeral_length, crate::proofs::DigitLaws::digit_by_digit), unfolding(crate::specs::Writing::over_if_room))]
 pub fn put_number(out: &mut [u8], p: usize, v: u64, w: usize)
     ensures { out.new ≡ over_if_room p (numeral w (v % 10 ^ w)) out.old }
 {
@@ -84,11 +72,9 @@ pub fn put_number(out: &mut [u8], p: usize, v: u64, w: usize)
         return;
     }
     let mut left = v;
-    let mut i = w;
-    while i > 0 {
-        i -= 1;
+    for i in (0..w).rev() {
         out[p + i] = b'0' + (left % 10) as u8;
-        left = left / 10;
+        left /= 10;
     }
 }
 
@@ -96,9 +82,5 @@ pub fn put_number(out: &mut [u8], p: usize, v: u64, w: usize)
 pub fn blank(out: &mut [u8])
     ensures { out.new ≡ blanks (length out.old) }
 {
-    let mut i = 0;
-    while i < out.len() {
-        out[i] = b' ';
-        i += 1;
-    }
+    out.fill(b' ');
 }

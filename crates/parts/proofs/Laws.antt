@@ -1,36 +1,27 @@
--- A part read as a file of its own, the blanks that close a section, and the tree of the parts opened one part at a time.
+-- A part read as a file of its own, and the blanks that close a section.
 -- A field inside the 29 bytes that are handed on is the same field of the file, also where the file ends in the part: both are whole together,
--- and have the same bytes (`part_look`). The blanks are 11 behind part 2, 12 behind parts 6, 10 and 14, none behind another with a part to come,
--- and always some behind the last (`eleven`, `twelve`, `none_between`, `some_behind`). The loop's walk over the parts that are left is opened
--- once: with none left it ends with the closing blanks, else it goes past blanks to one part and the others (`parts_over`, `part_next`,
--- `part_barred`).
-use Prim.Native.Nat.{ℕ, zero, suc, ◌+◌, ◌-◌, ◌*◌, ◌%◌, ◌≤◌, ◌<◌}
-use native.Mathlib.Nat.{add-zero}
-use native.Mathlib.Omega.{arith}
-use mathlib.Core.Path.{◌≡◌, refl, sym, ◌∙◌}
+-- and have the same bytes (`part_look`). So what is read in the part is what would be read in the file, with the place that it has there
+-- (`mark_refused`, `mark_passed`, `words_refused`, `words_passed`). The blanks are 11 behind part 2, 12 behind parts 6, 10 and 14, none behind
+-- another with a part to come, and always some behind the last (`eleven`, `twelve`, `none_between`, `some_behind`).
+use Rattle.std.proofs.Common.{◌≡◌, ℕ, zero, suc, ◌+◌, ◌-◌, ◌*◌, ◌%◌, ◌≤◌, Bool, true, false, cond, ◌&&◌, ◌||◌, leb, eqb, Ok, Err, List, [], ◌∷◌, length, take, drop, refl, sym, ap, ◌∙◌, add-zero, arith, length-take, length-drop, drop-drop, take-take, eqb→eq, leb-true, ne_eqb}
 use mathlib.Core.Logic.{inl, inr}
-use mathlib.Core.Bool.{Bool, true, false, ◌&&◌, ◌||◌, cond, or-false}
-use mathlib.Core.List.{List, [], ◌∷◌}
-use lib.ListN.{length, take, drop, length-take, length-drop, length-replicate}
-use lib.Seq.{drop-drop, take-take}
-use lib.Dec.{leb, eqb, eqb→eq}
-use borrow.Author.Tests.{leb-true, ne_eqb}
+use mathlib.Core.Bool.{or-false}
+use lib.ListN.{length-replicate}
 use Rattle.form.specs.Kind.{Kind, fixed, digits, width, blanks}
-use Rattle.form.specs.Form.{Rule, Form, ret, ◌>>=◌, ◌>>◌}
-use Rattle.form.specs.Reader.{Look}
+use Rattle.form.specs.Form.{Rule}
+use Rattle.form.specs.Reader.{Look, has}
 use Rattle.form.specs.Place.{look_at, field_at, read_at}
 use Rattle.form.proofs.BoolLaws.{T_of, or_cases}
-use Rattle.diskette.specs.Writing.{section, to_section_end, to_next_part}
+use Rattle.form.proofs.PlaceLaws.{field_inside, look_inside}
 use Rattle.document.specs.Marks.{mark_ok}
-use Rattle.diskette.specs.Fields.{Name, text27, closing_blanks, parts}
-use Rattle.diskette.proofs.PartsSays.{one_part}
+use Rattle.diskette.specs.Fields.{text27, closing_blanks}
+use Rattle.diskette.specs.Writing.{to_section_end, to_next_part}
 use Rattle.fields.specs.declared.Refusal.{Refusal}
-use Rattle.fields.specs.declared.Passed.{Passed}
-use Rattle.fields.specs.declared.Passed.TheVariants as passed
-use Rattle.fields.specs.Answers.{refusal_of, of_field, of_read, passings, passed_why}
-use Rattle.fields.proofs.WalkLaws.{Fails, Walk, start, retold, last, past_part, stopped_part}
-use Rattle.fields.proofs.AnswerLaws.{passings_told, passed_form}
+use Rattle.fields.specs.Answers.{refusal_of, Reading, Telling, of_field, of_read, passings, numbers}
+use Rattle.fields.proofs.AnswerLaws.{number_is, passed_to}
 use Rattle.fields.proofs.LeafLaws.{leb_leb}
+use Rattle.fields.proofs.StepLaws.{Gives, at_end, last}
+use Rattle.fields.proofs.WalkLaws.{fails}
 
 -- ---- a part as a file of its own
 
@@ -52,33 +43,63 @@ part_look κ f p q h j =
       drop-drop q p f,
     )
 
-module _ (f part : List ℕ) (p : ℕ) (cut : part ≡ take 29 (drop p f)) where
-  pub mark_there : (rs : ℕ → List Rule) → field_at (digits 2) rs part 0 ≡ field_at (digits 2) rs f p
-  mark_there rs = rw (cut, part_look (digits 2) f p 0 (omega arith) (omega arith), add-zero p)
+-- a field that is refused, also where it is looked for in the file, at q
+refused_there : {X T : Type 0} (t : Telling X T) {a : Reading T} (p n : ℕ) {l k : Look X} (q m : ℕ) → l ≡ k → a ≡ of_field t p n l → {r : Refusal} → a ≡ Err r
+    → of_field t q m k ≡ Err (refusal_of r.number q)
+unfolding of_field
+refused_there t p n {l} q m same told given = let x = fails t p n l told given in rw (← same, x.lack) (ap (λ (y : Refusal). Err (refusal_of y.number q)) (sym x.refusal))
 
-  pub words_there : look_at text27 part 2 ≡ look_at text27 f (p + 2)
+module _ (f part : List ℕ) (p : ℕ) (cut : part ≡ take 29 (drop p f)) where
+  module _ (rs : ℕ → List Rule) where
+    mark_there : field_at (digits 2) rs part 0 ≡ field_at (digits 2) rs f p
+    mark_there = rw (cut, part_look (digits 2) f p 0 (omega arith) (omega arith), add-zero p)
+
+    module _ {a : Reading (ℕ × ℕ)} (told : a ≡ of_field numbers 0 2 (field_at (digits 2) rs part 0)) where
+      pub mark_refused : {r : Refusal} → a ≡ Err r → of_field numbers p (p + 2) (field_at (digits 2) rs f p) ≡ Err (refusal_of r.number p)
+      mark_refused given = refused_there numbers 0 2 p (p + 2) mark_there told given
+
+      module _ {v q : ℕ} (given : a ≡ Ok (v, q)) where
+        mark_is : field_at (digits 2) rs f p ≡ has v
+        mark_is = sym mark_there ∙ (number_is 0 2 (field_at (digits 2) rs part 0) told given).0
+
+        pub mark_passed : of_field numbers p (p + 2) (field_at (digits 2) rs f p) ≡ Ok (v, p + 2)
+        unfolding of_field
+        mark_passed = rw mark_is
+
+        pub mark_inside : p + 2 ≤ length f
+        mark_inside = field_inside (digits 2) rs f p v mark_is
+
+  words_there : look_at text27 part 2 ≡ look_at text27 f (p + 2)
   words_there = rw (cut, part_look text27 f p 2 (omega arith) (omega arith))
 
--- a refusal inside a part is given its place in the file
-pub fails_there : {X : Type 0} {l k : Look X} {p : ℕ} {r : Refusal} → l ≡ k → (q : ℕ) → Fails l p r → Fails k q (refusal_of r.number q)
-fails_there same q x = record { reason = x.reason; lack = sym same ∙ x.lack; refusal = rw x.refusal }
+  module _ {a : Reading ℕ} (told : a ≡ of_field (passings {X = List ℕ}) 2 29 (look_at text27 part 2)) where
+    pub words_refused : {r : Refusal} → a ≡ Err r → of_field (passings {X = List ℕ}) (p + 2) (p + 2 + 27) (look_at text27 f (p + 2)) ≡ Err (refusal_of r.number (p + 2))
+    words_refused given = refused_there passings 2 29 (p + 2) (p + 2 + 27) words_there told given
 
--- ---- what is not kept
+    module _ {q : ℕ} (given : a ≡ Ok q) where
+      words_are : (v : List ℕ) × (look_at text27 f (p + 2) ≡ has v)
+      words_are = let t = passed_to 2 29 (look_at text27 part 2) told given in (t.0, sym words_there ∙ t.1)
 
--- the value of a form makes no difference to an answer that keeps none
-pub not_kept : {A B : Type 0} {f : List ℕ} {g : Passed} (m : Form Name A) (h : A → B) {p : ℕ} → Walk passings f g (m >>= λ a. ret (h a)) p → Walk passings f g m p
-not_kept m h = retold passings passings m h (λ a q. refl) (λ x. refl)
+      pub words_passed : of_field (passings {X = List ℕ}) (p + 2) (p + 2 + 27) (look_at text27 f (p + 2)) ≡ Ok (p + 2 + 27)
+      unfolding of_field
+      words_passed = rw words_are.1
+
+      pub words_inside : p + 2 + 27 ≤ length f
+      words_inside = look_inside text27 f (p + 2) words_are.0 words_are.1
 
 -- ---- the blanks that close a section
 
 module _ (n : ℕ) (f : List ℕ) (p : ℕ) where
-  pub closing_none : (w : ℕ) → w ≡ 0 → passed.To p ≡ of_read passings (read_at (closing_blanks n w) f p)
+  pub closing_none : (w : ℕ) → w ≡ 0 → Ok p ≡ of_read passings (read_at (closing_blanks n w) f p)
   unfolding read_at of_read
   closing_none w e = rw e
 
   pub closing_some : (w : ℕ) → (w ≡ 0 → ⊥) → of_field passings p (p + w) (look_at (fixed (blanks w)) f p) ≡ of_read passings (read_at (closing_blanks n w) f p)
   closing_some zero e = absurd (e refl)
-  closing_some (suc w) e = rw (length-replicate {A = ℕ} (suc w) 0x20) at (last {t = passings} {f = f} passings (λ v q. refl) (λ x. refl) (start (closing_blanks n (suc w)) p))
+  closing_some (suc w) e =
+      let blank = blanks (suc w) in
+      let g : Gives passings f (closing_blanks n (suc w)) p (of_field passings p (p + length blank) (look_at (fixed blank) f p)) = last passings (λ v. at_end) in
+      rw (length-replicate {A = ℕ} (suc w) 0x20) at (sym g.is)
 
 -- how many blanks stand between part i and a next one, and behind it where it is the last
 module _ (i : ℕ) where
@@ -117,24 +138,3 @@ module _ (room m : ℕ) where
 
   pub mark_03 : (m ≡ 1 → ⊥) → (m ≡ 2 → ⊥) → eqb m 3 && leb 1 room ≡ mark_ok room m
   mark_03 d e = rw (ne_eqb m 1 d, ne_eqb m 2 e)
-
--- ---- the parts, one opened
-
--- left parts are to come behind part i, and a is the answer to the blanks that close its section
-module _ {f : List ℕ} {g : Passed} {p : ℕ} (left i room : ℕ) (w : Walk passings f g (parts left i room) p) where
-  pub parts_over : {a : Passed} → left ≡ 0 → a ≡ of_read passings (read_at (closing_blanks (section i) (to_section_end i)) f p) → a ≡ g
-  unfolding parts
-  parts_over e told = told ∙ sym (not_kept (closing_blanks (section i) (to_section_end i)) (λ u. []) (rw e at w)).owed
-
-  more_parts : 0 < left → Walk passings f g (closing_blanks (section i) (to_next_part i) >> one_part (left - 1) i room) p
-  unfolding parts
-  more_parts h = let e : left ≡ suc (left - 1) = omega arith in rw e at w
-
-  module _ {a : Passed} (more : 0 < left) (told : a ≡ of_read passings (read_at (closing_blanks (section i) (to_next_part i)) f p)) where
-    pub part_next : {q : ℕ} → a ≡ passed.To q → Walk passings f g (one_part (left - 1) i room) q
-    part_next given =
-        past_part (closing_blanks (section i) (to_next_part i)) (λ u. one_part (left - 1) i room) (more_parts more) (passed_form _ told given).1
-
-    pub part_barred : {x r : Refusal} → a ≡ passed.Refused x → r ≡ passed_why a → passed.Refused r ≡ g
-    part_barred given e =
-        stopped_part (closing_blanks (section i) (to_next_part i)) (λ u. one_part (left - 1) i room) (more_parts more) passings_told told given e

@@ -10,7 +10,7 @@ ghost use Rattle.diskette.specs.Fields.{text27, mark_rules, closing_blanks, part
 ghost use Rattle.layout.specs.Steps.{parts_at};
 ghost use Rattle.fields.specs.Answers.{of_field, of_read, passings, numbers};
 
-use fields::{Number, Passed, refusals};
+use fields::{Reading, Refusal, refusals};
 use layout::{at, length, width};
 
 // The layout in the numbers in which parts are counted: the most of them, the bytes of the second section behind C18, of a part, of a section.
@@ -86,31 +86,28 @@ fn part_at(s: &[u8], p: usize) -> &[u8]
 }
 
 // The mark of a part, where left more parts are to come.
-fn mark_in(part: &[u8], room: u64, left: u64) -> Number
+fn mark_in(part: &[u8], room: u64, left: u64) -> Reading<(u64, usize)>
     ensures { result ≡ of_field numbers 0 2 (field_at (digits 2) (mark_rules room left) part.now 0) }
 {
-    let read = fields::number_at(part, 0, width::MARK);
-    let Number::Is(mark, q) = read else {
-        return Number::Refused(read.why());
-    };
+    let (mark, q) = fields::number_at(part, 0, width::MARK)?;
     if !mark_ok(room, mark) {
-        return Number::Refused(fields::refuse(refusals::NO_MARK, 0));
+        return Err(fields::refuse(refusals::NO_MARK, 0));
     }
     if left > room_after(mark, room) {
-        return Number::Refused(fields::refuse(refusals::NO_MARK, 0));
+        return Err(fields::refuse(refusals::NO_MARK, 0));
     }
-    Number::Is(mark, q)
+    Ok((mark, q))
 }
 
 // The text of a part.
-fn words_in(part: &[u8]) -> Passed
+fn words_in(part: &[u8]) -> Reading<usize>
     ensures { result ≡ of_field passings 2 29 (look_at text27 part.now 2) }
 {
     fields::text_at(part, width::MARK)
 }
 
 // The blanks behind part i, before a next one: only behind a part that fills its section.
-fn closing_before(s: &[u8], p: usize, i: u64) -> Passed
+fn closing_before(s: &[u8], p: usize, i: u64) -> Reading<usize>
     ensures { result ≡ of_read passings (read_at (closing_blanks (section i) (to_next_part i)) s.now p) }
 {
     if i == 2 {
@@ -119,11 +116,11 @@ fn closing_before(s: &[u8], p: usize, i: u64) -> Passed
     if (i == 6) | ((i == 10) | (i == 14)) {
         return fields::blanks_at(s, p, BEHIND_FOUR);
     }
-    Passed::To(p)
+    Ok(p)
 }
 
 // The blanks behind the last part, i.
-fn closing_behind(s: &[u8], p: usize, i: u64) -> Passed
+fn closing_behind(s: &[u8], p: usize, i: u64) -> Reading<usize>
     ensures { result ≡ of_read passings (read_at (closing_blanks (section i) (to_section_end i)) s.now p) }
 {
     fields::blanks_at(s, p, to_section_end(i))
@@ -136,41 +133,38 @@ pub fn count_at(s: &[u8], p: usize) -> usize
     if !fields::whole(s.len(), p, at::PARTS) {
         return 0;
     }
-    let a = fields::number_at(s, p + at::C18, width::C18);
-    let Number::Is(k, _) = a else {
-        return 0;
-    };
-    k as usize
+    fields::number_at(s, p + at::C18, width::C18).map_or(0, |(k, _)| k as usize)
 }
 
 // The k parts of a payment from at on, with the blanks that close its sections.
-pub fn read_parts(s: &[u8], at: usize, k: u64) -> Passed
+pub fn read_parts(s: &[u8], at: usize, k: u64) -> Reading<usize>
     ensures { result ≡ of_read passings (read_at (parts k 0 15) s.now at) }
 {
     let mut p = at;
-    let mut left = k;
-    let mut i: u64 = 0;
     let mut room: u64 = MOST_PARTS;
-    while left > 0 {
+    for i in 0..k {
         let closed = closing_before(s, p, i);
-        let Passed::To(start) = closed else {
-            return Passed::Refused(closed.why());
+        let Ok(start) = closed else {
+            return closed;
         };
-        let more = left - 1;
         let part = part_at(s, start);
-        let m = mark_in(part, room, more);
-        let Number::Is(mark, _) = m else {
-            return Passed::Refused(fields::refuse(m.why().number, start));
+        let m = mark_in(part, room, k - i - 1);
+        let Ok((mark, _)) = m else {
+            return Err(Refusal {
+                place: start,
+                ..fields::why(m)
+            });
         };
         let text = start + width::MARK;
         let w = words_in(part);
-        let Passed::To(_) = w else {
-            return Passed::Refused(fields::refuse(w.why().number, text));
+        let Ok(_) = w else {
+            return Err(Refusal {
+                place: text,
+                ..fields::why(w)
+            });
         };
         p = text + width::TEXT;
-        left = more;
-        i += 1;
         room = room_after(mark, room);
     }
-    closing_behind(s, p, i)
+    closing_behind(s, p, k)
 }

@@ -2,7 +2,7 @@
 use Prim.Native.Nat.{ℕ, zero, suc, ◌+◌, ◌/◌, ◌%◌, ◌^◌, ◌≤◌, ◌<◌}
 use native.Mathlib.Nat.{pow-suc, div-lt_iff_lt-mul, mod-eq_of_lt}
 use native.Mathlib.Omega.{arith}
-use mathlib.Core.Path.{◌≡◌, refl, ap}
+use mathlib.Core.Path.{◌≡◌, refl, sym, ap, ◌∙◌}
 use mathlib.Core.Logic.{◌↔◌, ◌⊎◌, inl, inr, ⊎_elim}
 use mathlib.Core.Bool.{Bool, true, false}
 use lib.Dec.{ltb}
@@ -70,23 +70,21 @@ decimal_reads v h = number_numeral (digits_within 20 v) v (digits_suffice 20 v h
 
 -- ---- counted by dividing
 
--- n digits of v have been counted, and for what is left the last of them and `places` more suffice
-pub record Counting (v n left : ℕ) : Type 0 where
-  pub places : ℕ
-  pub all : n + places ≡ 20
-  pub small : left < 10 ^ suc places
-  pub counted : n + digits_within (suc places) left ≡ 1 + digits_within 20 v
+-- one place more than suffice counts no digit more
+one_place_more : (n v : ℕ) → v < 10 ^ suc n → digits_within (suc (suc n)) v ≡ digits_within (suc n) v
+one_place_more zero v h = one_digit 1 v h ∙ sym (one_digit 0 v h)
+one_place_more (suc n) v h =
+    ⊎_elim (λ l. one_digit (suc (suc n)) v l ∙ sym (one_digit (suc n) v l))
+    (λ l. another_digit (suc (suc n)) v l ∙ ap suc (one_place_more n (v / 10) ((tenth (suc n) v).1 h)) ∙ sym (another_digit (suc n) v l)) (few_or_more v)
 
-pub count_start : (v : ℕ) → v < 10 ^ 20 → Counting v 1 v
-count_start v h = record { places = 19; all = refl; small = h; counted = refl }
+-- of 64 bits: the last digit, one digit ahead of those of the tenth, and never many
+pub last_one : (v : ℕ) → v < 10 → digits_within 20 v ≡ 1
+last_one = one_digit 19
 
-pub count_more : {v n left : ℕ} → Counting v n left → 10 ≤ left → Counting v (n + 1) (left / 10)
-count_more {v} {n} {left} s h = by s.places s.all s.small s.counted
-  where
-    by : (k : ℕ) → n + k ≡ 20 → left < 10 ^ suc k → n + digits_within (suc k) left ≡ 1 + digits_within 20 v → Counting v (n + 1) (left / 10)
-    by zero a l c = absurd (omega arith)
-    by (suc k) a l c =
-        record { places = k; all = omega arith; small = (tenth (suc k) left).1 l; counted = omega (arith, another_digit (suc k) left h) }
+pub one_more : (v : ℕ) → 10 ≤ v → v < 10 ^ 20 → digits_within 20 v ≡ 1 + digits_within 20 (v / 10)
+one_more v l h = omega (arith, another_digit 19 v l, one_place_more 18 (v / 10) ((tenth 19 v).1 h))
 
-pub count_end : {v n left : ℕ} → Counting v n left → left < 10 → n ≡ digits_within 20 v
-count_end {left = left} s h = omega (arith, s.counted, one_digit s.places left h)
+pub few : (v : ℕ) → digits_within 20 v ≤ 20
+few = no_more 20
+
+pub ruleset digit_by_digit = (last_one, one_more, few)

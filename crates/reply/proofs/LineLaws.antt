@@ -16,7 +16,7 @@ use Rattle.listing.specs.Lines.{tab, line_end}
 use Rattle.output.specs.Writing.{over, over_if_room}
 use Rattle.output.proofs.OverLaws.{over_room, over_length, over_first, over_next, over_more}
 use Rattle.reply.specs.Reply.{digits_within, decimal, refusal_line, fitting}
-use Rattle.reply.proofs.DecimalLaws.{no_more, decimal_digits}
+use Rattle.reply.proofs.DecimalLaws.{no_more, few, decimal_digits}
 
 -- ---- all bytes, or none
 
@@ -124,3 +124,6 @@ module _ (n p : ℕ) (old : List ℕ) where
               ∙ all_pieces (decimal n) (decimal p) old room the_number the_place
               ∙ ap (λ bs. filled bs old) e,
         )
+
+-- what the function needs that writes the line: no number has many digits, how long the line is, and both ways out
+pub ruleset piece_by_piece = (few, line_length, line_not_written, line_written)

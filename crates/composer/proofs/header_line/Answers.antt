@@ -13,7 +13,7 @@ use Rattle.composer.proofs.ToldLaws.{header_denied, header_refuses, header_accep
 use Rattle.composer.proofs.header_line.Goals as goal
 
 pub returns-then-not-formed : goal.returns-then-not-formed
-returns-then-not-formed c = header_denied _ _ c.refuse.ensures (sym c.formed.ensures ∙ not-true _ c.if-not-formed.true-raw)
+returns-then-not-formed c = header_denied _ c.refuse.ensures (sym c.formed.ensures ∙ not-true _ c.if-not-formed.true-raw)
 
 pub lay_header-requires : goal.lay_header-requires
 lay_header-requires c =
@@ -26,16 +26,16 @@ refused_in-requires c =
     let l = c.well_formed.0.1 in
     (formed, omega arith)
 
-pub returns-in_default : goal.returns-in_default
-returns-in_default c =
+pub returns-in_err : goal.returns-in_err
+returns-in_err c =
     let formed : FormedLine true fields_of_header_line c.args.x.now = (omega arith, (omega arith, sym c.formed.ensures ∙ not-false _ c.if-not-formed.false-raw)) in
-    header_refuses _ _ formed.1.1
-    (c.header_at-a.ensures ∙ ap (λ f. of_read headers (read_at header f 0)) c.lay_header.ensures)
-    c.in_default.is c.why.ensures c.refused_in.ensures
+    header_refuses _ formed.1.1
+    (c.header_at.ensures ∙ ap (λ f. of_read headers (read_at header f 0)) c.lay_header.ensures)
+    c.in_err.is c.refused_in.ensures
 
-pub returns : goal.returns
-returns c =
+pub returns-in_ok : goal.returns-in_ok
+returns-in_ok c =
     let formed : FormedLine true fields_of_header_line c.args.x.now = (omega arith, (omega arith, sym c.formed.ensures ∙ not-false _ c.if-not-formed.false-raw)) in
-    header_accepts _ _ formed.1.1
-    (c.header_at-a.ensures ∙ ap (λ f. of_read headers (read_at header f 0)) c.lay_header.ensures)
-    c.in-Is.is
+    header_accepts _ formed.1.1
+    (c.header_at.ensures ∙ ap (λ f. of_read headers (read_at header f 0)) c.lay_header.ensures)
+    c.in_ok.is

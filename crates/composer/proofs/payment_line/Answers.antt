@@ -14,9 +14,9 @@ use borrow.Author.Tests.{not-false, not-true}
 use Rattle.form.specs.Place.{read_at}
 use Rattle.document.specs.Marks.{most_parts}
 use Rattle.diskette.specs.Writing.{section}
-use Rattle.fields.specs.Answers.{of_read, letters_of}
+use Rattle.fields.specs.Answers.{Reading, of_read, letters_of}
 use Rattle.sums.specs.Sums.{totals_of}
-use Rattle.payment.specs.declared.PaymentRead.{PaymentRead}
+use Rattle.sums.specs.declared.Sums.{Sums}
 use Rattle.payment.specs.Adding.{payments_on}
 use Rattle.listing.specs.Lines.{tab, split}
 use Rattle.listing.specs.Records.{record_c, fields_with, parts_of, lay}
@@ -72,8 +72,8 @@ refused_in-requires c =
     let formed : FormedLine false (fields_with c.parts_of-k.result) c.args.x.now = let h = few_parts in (omega arith, (omega arith, sym c.formed.ensures ∙ not-false _ c.if-not-formed.false-raw)) in
     (formed, c.requires.0)
 
-pub returns-in_default : goal.returns-in_default
-returns-in_default c =
+pub returns-in_err : goal.returns-in_err
+returns-in_err c =
     let parts : c.parts_of-k.result ≡ parts_of (length (split tab c.args.x.now)) = c.parts_of-k.ensures ∙ ap parts_of c.count_fields.ensures in
     let few_parts : c.parts_of-k.result ≤ most_parts = let e = parts in let h = few (length (split tab c.args.x.now)) in omega arith in
     let formed : FormedLine false (fields_with c.parts_of-k.result) c.args.x.now = let h = few_parts in (omega arith, (omega arith, sym c.formed.ensures ∙ not-false _ c.if-not-formed.false-raw)) in
@@ -81,13 +81,13 @@ returns-in_default c =
     let laid : List ℕ = c.lay_payment.new.out in
     let behind : List ℕ = drop c.bytes_of-bytes.result c.args.space.now in
     let laid-long : length laid ≡ c.bytes_of-bytes.result = c.lay_payment.auto.out ∙ length-take-le _ _ within in
-    let answer : List ℕ → PaymentRead = λ f. let a = c.args in of_read (payments_on a.sums) (read_at (whole_payment (letters_of a.kind) (totals_of a.count a.sums)) f 0) in
+    let answer : List ℕ → Reading (Sums × ℕ) = λ f. let a = c.args in of_read (payments_on a.sums) (read_at (whole_payment (letters_of a.kind) (totals_of a.count a.sums)) f 0) in
     let read : c.payment_record-c.result ≡ answer (lay (record_c c.parts_of-k.result) (behind_letter (split tab c.args.x.now))) = c.payment_record-c.ensures ∙ ap answer (take_at laid behind _ laid-long ∙ c.lay_payment.ensures) in
-    payment_refuses _ _ _ _ _ parts formed.1.1 read c.in_default.is
-    c.why.ensures c.refused_in.ensures
+    payment_refuses _ _ _ _ _ parts formed.1.1 read c.in_err.is
+    c.refused_in.ensures
 
-pub returns : goal.returns
-returns c =
+pub returns-in_ok : goal.returns-in_ok
+returns-in_ok c =
     let parts : c.parts_of-k.result ≡ parts_of (length (split tab c.args.x.now)) = c.parts_of-k.ensures ∙ ap parts_of c.count_fields.ensures in
     let few_parts : c.parts_of-k.result ≤ most_parts = let e = parts in let h = few (length (split tab c.args.x.now)) in omega arith in
     let formed : FormedLine false (fields_with c.parts_of-k.result) c.args.x.now = let h = few_parts in (omega arith, (omega arith, sym c.formed.ensures ∙ not-false _ c.if-not-formed.false-raw)) in
@@ -95,6 +95,6 @@ returns c =
     let laid : List ℕ = c.lay_payment.new.out in
     let behind : List ℕ = drop c.bytes_of-bytes.result c.args.space.now in
     let laid-long : length laid ≡ c.bytes_of-bytes.result = c.lay_payment.auto.out ∙ length-take-le _ _ within in
-    let answer : List ℕ → PaymentRead = λ f. let a = c.args in of_read (payments_on a.sums) (read_at (whole_payment (letters_of a.kind) (totals_of a.count a.sums)) f 0) in
+    let answer : List ℕ → Reading (Sums × ℕ) = λ f. let a = c.args in of_read (payments_on a.sums) (read_at (whole_payment (letters_of a.kind) (totals_of a.count a.sums)) f 0) in
     let read : c.payment_record-c.result ≡ answer (lay (record_c c.parts_of-k.result) (behind_letter (split tab c.args.x.now))) = c.payment_record-c.ensures ∙ ap answer (take_at laid behind _ laid-long ∙ c.lay_payment.ensures) in
-    payment_accepts _ _ _ _ _ parts formed.1.1 read c.in-Is.is c.bytes_of-bytes.ensures
+    payment_accepts _ _ _ _ _ parts formed.1.1 read c.in_ok.is c.bytes_of-bytes.ensures

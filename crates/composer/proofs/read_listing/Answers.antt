@@ -2,6 +2,7 @@
 use native.Mathlib.Omega.{arith}
 use mathlib.Core.Path.{refl, sym}
 use lib.Seq.{length-take-le}
+use Rattle.std.proofs.lemmas.Result.{err_from_is_err_and}
 use Rattle.composer.proofs.FirstLineLaws.{first_inside, listing_none, listing_cut, first_within, listing_refused, listing_read}
 use Rattle.composer.proofs.read_listing.Goals as goal
 
@@ -14,10 +15,10 @@ returns-then-e-l c = listing_cut _ _ c.reach-e.ensures c.if-e-l.true c.if-e-eq0.
 pub slice_bounds-header_line-end : goal.slice_bounds-header_line-end
 slice_bounds-header_line-end c = sym (length-take-le _ _ (first_inside _ _ c.reach-e.ensures))
 
-pub returns-in_default : goal.returns-in_default
-returns-in_default c =
-    listing_refused _ _ c.reach-e.ensures c.if-e-l.false _ c.header_line-a.ensures
-    c.in_default.is c.why.ensures
+pub returns-in_err-kind : goal.returns-in_err-kind
+returns-in_err-kind c =
+    let p = err_from_is_err_and c.from_residual.result c.from_residual.ensures.1 in
+    rw (p.1, p.2) (listing_refused _ _ c.reach-e.ensures c.if-e-l.false c.in_err-kind.ensures refl)
 
 pub overflow_add-e : goal.overflow_add-e
 overflow_add-e c =
@@ -32,5 +33,5 @@ read_payments-requires c =
 
 pub returns : goal.returns
 returns c =
-    listing_read _ _ c.reach-e.ensures c.if-e-l.false _ c.header_line-a.ensures c.in-Is.is
+    listing_read _ _ c.reach-e.ensures c.if-e-l.false c.in_ok-kind.ensures refl
     c.read_payments.ensures

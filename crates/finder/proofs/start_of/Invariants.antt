@@ -1,5 +1,4 @@
 -- finder::start_of meets its contract: from one payment to the next, n times.
-use Prim.Native.Nat.{◌-◌, ◌≤◌}
 use Rattle.diskette.specs.Answer.{answer, payments_of}
 use Rattle.layout.proofs.StepLaws.{Passing}
 use Rattle.loader.specs.Columns.{starts}
@@ -7,7 +6,4 @@ use Rattle.finder.proofs.LoopLaws.{Ahead}
 use Rattle.finder.proofs.start_of.Given as goal
 
 abbrev pub invariant-loop-row : goal.invariant-loop-row
-invariant-loop-row l = (l.row ≤ l.n) × Passing l.s (Ahead (starts (payments_of (answer l.s)))) l.row l.p
-
-abbrev pub decreases-loop-row : goal.decreases-loop-row
-decreases-loop-row l = l.n - l.row
+invariant-loop-row l = Passing l.s (Ahead (starts (payments_of (answer l.s)))) l._row l.p

@@ -6,19 +6,18 @@ use Rattle.line_reader.proofs.SeenLaws.{part_seen, part_not_so, part_no_text}
 use Rattle.line_reader.proofs.part_at.Goals as goal
 
 pub returns-then-l-q-ne-TAB : goal.returns-then-l-q-ne-TAB
-returns-then-l-q-ne-TAB c = λ m e p. c.if-l-q-ne-TAB.true p.tab
+returns-then-l-q-ne-TAB c = λ part p. c.if-l-q-ne-TAB.true p.tab
 
 pub returns-in_default : goal.returns-in_default
-returns-in_default c = λ m e p. no_number _ _ _ c.number_at-read.ensures c.in_default.is p.number
+returns-in_default c = λ part p. no_number _ _ _ c.number_at-read.ensures c.in_default.is p.number
 
 pub returns-then-not-mark_ok : goal.returns-then-not-mark_ok
-returns-then-not-mark_ok c = part_not_so _ _ c.number_at-read.ensures c.in-Is.is (sym c.mark_ok.ensures ∙ not-true _ c.if-not-mark_ok.true-raw)
+returns-then-not-mark_ok c = part_not_so _ _ c.number_at-read.ensures c.in-Ok.is (sym c.mark_ok.ensures ∙ not-true _ c.if-not-mark_ok.true-raw)
 
-pub returns-in_default-words : goal.returns-in_default-words
-returns-in_default-words c =
-    part_no_text _ _ c.number_at-read.ensures c.in-Is.is c.text_at-words.ensures c.in_default-words.is
+pub returns-in_err-e : goal.returns-in_err-e
+returns-in_err-e c = rw c.from_residual.ensures (part_no_text _ _ c.number_at-read.ensures c.in-Ok.is c.in_err-e.ensures)
 
 pub returns : goal.returns
 returns c =
-    part_seen _ _ c.number_at-read.ensures c.in-Is.is c.if-l-q-ne-TAB.false (sym c.mark_ok.ensures ∙ not-false _ c.if-not-mark_ok.false-raw)
-    c.text_at-words.ensures c.in-To.is
+    part_seen _ _ c.number_at-read.ensures c.in-Ok.is c.if-l-q-ne-TAB.false (sym c.mark_ok.ensures ∙ not-false _ c.if-not-mark_ok.false-raw)
+    c.in_ok-e.ensures

@@ -7,39 +7,44 @@ use Prim.Native.Nat.{ℕ}
 use native.Mathlib.Omega.{arith}
 use mathlib.Core.Path.{subst}
 use Rattle.fields.specs.Answers.{letters_of}
-use Rattle.line_reader.specs.Lines.{Names, PartsTo, AllParts}
-use Rattle.line_reader.proofs.SeenLaws.{numbers_is, numbers_none, names_once}
-use Rattle.line_reader.proofs.PaymentLaws.{Seen, line_seen_lem, end_inside}
+use Rattle.line_reader.specs.Lines.{PartsTo}
+use Rattle.line_reader.proofs.SeenLaws.{names_once}
+use Rattle.line_reader.proofs.PartLaws.{parts_told}
+use Rattle.line_reader.proofs.PaymentLaws.{Seen, line_seen_lem}
 use Rattle.line_reader.proofs.ToldLaws.{told_is, told_no}
 use Rattle.line_reader.proofs.read_line.Goals as goal
 
 pub returns-then-count-ge-MOST_PAYMENTS : goal.returns-then-count-ge-MOST_PAYMENTS
 returns-then-count-ge-MOST_PAYMENTS c = told_no _ _ _ _ _ (λ new k e s. omega (arith, s.may, c.if-count-ge-MOST_PAYMENTS.true))
 
-pub returns-in_default : goal.returns-in_default
-returns-in_default c = told_no _ _ _ _ _ (λ new k e s. numbers_none c.numbers_at-numbers.ensures c.in_default.is new s.numbers)
+pub returns-in_err-new_sums : goal.returns-in_err-new_sums
+returns-in_err-new_sums c = rw c.from_residual.ensures (told_no _ _ _ _ _ (λ new k e s. c.in_err-new_sums.ensures new s.numbers))
 
 pub overflow_add-p : goal.overflow_add-p
 overflow_add-p c =
-    let h = (numbers_is c.numbers_at-numbers.ensures c.in-Are.is).inside in
+    let h = c.in_ok-new_sums.ensures.inside in
     omega (arith, c.well_formed)
 
-pub returns-in_default-names : goal.returns-in_default-names
-returns-in_default-names c = told_no _ _ _ _ _ (λ new k e s. subst (Names _ _) c.in_default-names.is c.names_at-names.ensures s.behind_texts s.texts)
+pub returns-in_err-first : goal.returns-in_err-first
+returns-in_err-first c = rw c.from_residual-in_err-first.ensures (told_no _ _ _ _ _ (λ new k e s. c.in_err-first.ensures s.behind_texts s.texts))
 
-pub returns-in_default-parts : goal.returns-in_default-parts
-returns-in_default-parts c =
-    let a = c.args in
-    let texts = subst (Names _ _) c.in-To.is c.names_at-names.ensures in
-    told_no _ _ _ _ _ (λ new k e s. subst (AllParts _ _) c.in_default-parts.is c.parts_from-parts.ensures k e
-    (subst (λ (q : ℕ). PartsTo a.l.now q 15 k e) (names_once s.texts texts) s.parts))
+pub returns-in_err-k : goal.returns-in_err-k
+returns-in_err-k c =
+    rw c.from_residual-in_err-k.ensures
+    (told_no _ _ _ _ _ (λ new k e s. c.in_err-k.ensures (k, e)
+    (subst (λ (q : ℕ). PartsTo c.args.l.now q 15 k e) (names_once s.texts c.in_ok-first.ensures) s.parts)))
 
-pub overflow_add-next : goal.overflow_add-next
-overflow_add-next c =
-    let seen : let a = c.args in Seen a.l.now a.p (letters_of a.kind) a.count a.sums c.in-Are.new_sums c.in-Are-parts.k c.in-Are-parts.e = record { may = c.if-count-ge-MOST_PAYMENTS.false; numbers = numbers_is c.numbers_at-numbers.ensures c.in-Are.is; behind_texts = c.in-To.first; texts = subst (Names _ _) c.in-To.is c.names_at-names.ensures; parts = subst (AllParts _ _) c.in-Are-parts.is c.parts_from-parts.ensures } in
-    omega (arith, end_inside seen, c.well_formed)
+pub overflow_add-seen : goal.overflow_add-seen
+overflow_add-seen c = omega (arith, (parts_told c.in_ok-k.ensures).inside, c.well_formed)
 
 pub returns : goal.returns
 returns c =
-    let seen : let a = c.args in Seen a.l.now a.p (letters_of a.kind) a.count a.sums c.in-Are.new_sums c.in-Are-parts.k c.in-Are-parts.e = record { may = c.if-count-ge-MOST_PAYMENTS.false; numbers = numbers_is c.numbers_at-numbers.ensures c.in-Are.is; behind_texts = c.in-To.first; texts = subst (Names _ _) c.in-To.is c.names_at-names.ensures; parts = subst (AllParts _ _) c.in-Are-parts.is c.parts_from-parts.ensures } in
-    told_is (line_seen_lem seen c.bytes_of-bytes.ensures)
+    let seen : let a = c.args in Seen a.l.now a.p (letters_of a.kind) a.count a.sums c.in_ok-new_sums.new_sums c.in_ok-k.k c.in_ok-k.e
+    = record {
+      may = c.if-count-ge-MOST_PAYMENTS.false;
+      numbers = c.in_ok-new_sums.ensures;
+      behind_texts = c.in_ok-first.first;
+      texts = c.in_ok-first.ensures;
+      parts = c.in_ok-k.ensures;
+    } in
+    told_is (line_seen_lem seen c.bytes_of.ensures)

@@ -35,12 +35,6 @@ overflow_add-p c =
     let s = c.loop-row.invariant.standing in
     omega (arith, pass_inside s.passing (still_coming s c.loop-row-test.true) c.count_at-k.ensures c.bytes_of-p.ensures)
 
-pub overflow_add-row : goal.overflow_add-row
-overflow_add-row c = omega arith
-
-pub loop-row-smaller : goal.loop-row-smaller
-loop-row-smaller c = omega arith
-
 pub loop-row-preserved : goal.loop-row-preserved
 loop-row-preserved c =
     let h = c.loop-row-test.true in

@@ -23,12 +23,6 @@ overflow_add-p c =
     let s = c.loop-row.invariant.standing in
     omega (arith, pass_inside s.passing (still_coming s c.loop-row-test.true) c.count_at-k.ensures c.bytes_of-p.ensures)
 
-pub overflow_add-row : goal.overflow_add-row
-overflow_add-row c = omega arith
-
-pub loop-row-smaller : goal.loop-row-smaller
-loop-row-smaller c = omega arith
-
 pub loop-row-preserved : goal.loop-row-preserved
 loop-row-preserved c =
     let e = c.print_payment-q.ensures in
@@ -36,9 +30,6 @@ loop-row-preserved c =
     let h = c.loop-row-test.true in
     list_more s h c.count_at-k.ensures e.place e.out
     (pass_on s.standing.passing (still_coming s.standing h) c.count_at-k.ensures c.bytes_of-p.ensures (row_on s.standing))
-
-pub shape_of-out : goal.shape_of-out
-shape_of-out c = omega arith
 
 pub returns : goal.returns
 returns c =

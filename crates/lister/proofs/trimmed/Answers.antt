@@ -1,27 +1,11 @@
-use native.Mathlib.Omega.{arith}
-use Rattle.lister.proofs.TrimLaws.{trim_start, trim_more, trim_stop, trim_all}
+-- lister::trimmed meets its contract: behind the place of the last byte that is no blank there are only blanks.
+use Rattle.std.proofs.Common.{rules}
+use Rattle.std.proofs.iter.runs.Made.{chains}
+use Rattle.lister.proofs.TrimLaws.{trims_to, trims_all}
 use Rattle.lister.proofs.trimmed.Goals as goal
 
-pub loop-i-init : goal.loop-i-init
-loop-i-init c = trim_start c.args.t.now
+pub returns-in-Some : goal.returns-in-Some
+returns-in-Some c = trims_to _ _ (search (rules, chains)) (search (rules, chains)) (search (rules, chains))
 
-pub overflow_sub-i : goal.overflow_sub-i
-overflow_sub-i c = omega arith
-
-pub bounds-t-i : goal.bounds-t-i
-bounds-t-i c = omega arith
-
-pub returns-then-t-i-ne32 : goal.returns-then-t-i-ne32
-returns-then-t-i-ne32 c = trim_stop c.loop-i.invariant c.loop-i-test.true c.if-t-i-ne32.true
-
-pub overflow_sub-i-in-loop-i : goal.overflow_sub-i-in-loop-i
-overflow_sub-i-in-loop-i c = omega arith
-
-pub loop-i-smaller : goal.loop-i-smaller
-loop-i-smaller c = omega arith
-
-pub loop-i-preserved : goal.loop-i-preserved
-loop-i-preserved c = trim_more c.loop-i.invariant c.loop-i-test.true c.if-t-i-ne32.false
-
-pub returns : goal.returns
-returns c = trim_all c.loop-i.invariant c.loop-i-test.false
+pub returns-in-None : goal.returns-in-None
+returns-in-None c = trims_all _ (search (rules, chains))

@@ -24,6 +24,6 @@ returns-in_default-new_cents c =
 
 pub returns : goal.returns
 returns c =
-    same_sums (accounts_within _ _ c.add-new_accounts.ensures c.in-Within.is).1
-    (bank_codes_within _ _ c.add-new_banks.ensures c.in-Within-new_banks.is).1
-    (cents_within _ _ c.add-new_cents.ensures c.in-Within-new_cents.is).1
+    same_sums (accounts_within _ _ c.add-new_accounts.ensures c.in-Some.is).1
+    (bank_codes_within _ _ c.add-new_banks.ensures c.in-Some-new_banks.is).1
+    (cents_within _ _ c.add-new_cents.ensures c.in-Some-new_cents.is).1

@@ -1,11 +1,8 @@
 use native.Mathlib.Omega.{arith}
 use mathlib.Core.Path.{sym, ◌∙◌}
 use borrow.Author.Tests.{not-true, not-false}
-use Rattle.composer.proofs.FormLaws.{cells_few, stand_ends, stand_more, other_count, other_letter, form_first, form_not, form_more, form_last}
+use Rattle.composer.proofs.FormLaws.{stand_ends, other_count, other_letter, form_first, form_not, form_more}
 use Rattle.composer.proofs.line.formed.Goals as goal
-
-pub overflow_add-n : goal.overflow_add-n
-overflow_add-n c = omega (arith, cells_few c.args.head)
 
 pub returns-then-count_fields-n : goal.returns-then-count_fields-n
 returns-then-count_fields-n c =
@@ -15,41 +12,20 @@ pub returns-then-not-begins : goal.returns-then-not-begins
 returns-then-not-begins c =
     other_letter c.args.head c.args.n c.args.x.now c.requires (sym c.begins.ensures ∙ not-true _ c.if-not-begins.true-raw)
 
-pub loop-head-init : goal.loop-head-init
-loop-head-init c =
+pub loop-i-init : goal.loop-i-init
+loop-i-init c =
     form_first c.args.head c.args.n c.args.x.now c.requires (sym c.count_fields.ensures ∙ c.if-count_fields-n.false)
     (sym c.begins.ensures ∙ not-false _ c.if-not-begins.false-raw)
 
-pub slice_bounds-field_formed-count : goal.slice_bounds-field_formed-count
-slice_bounds-field_formed-count c = (stand_ends c.loop-head.invariant.stand c.field_end-e.result c.field_end-e.ensures).0
-
-pub slice_bounds-field_formed-start : goal.slice_bounds-field_formed-start
-slice_bounds-field_formed-start c = (stand_ends c.loop-head.invariant.stand c.field_end-e.result c.field_end-e.ensures).0
-
 pub slice_bounds-field_formed-end : goal.slice_bounds-field_formed-end
-slice_bounds-field_formed-end c = (stand_ends c.loop-head.invariant.stand c.field_end-e.result c.field_end-e.ensures).1
+slice_bounds-field_formed-end c = (stand_ends c.loop-i.invariant.stand (omega arith) c.field_end-e.result c.field_end-e.ensures).1
 
 pub returns-then-not-field_formed : goal.returns-then-not-field_formed
 returns-then-not-field_formed c =
-    form_not c.loop-head.invariant c.field_end-e.result c.field_end-e.ensures c.cell_at-c.result c.cell_at-c.ensures
+    form_not c.loop-i.invariant (omega arith) c.field_end-e.result c.field_end-e.ensures c.cell_at-c.result c.cell_at-c.ensures
     (sym (not-true _ c.if-not-field_formed.true-raw) ∙ c.field_formed.ensures)
 
-pub overflow_add-i : goal.overflow_add-i
-overflow_add-i c = omega arith
-
-pub returns-then-i-n : goal.returns-then-i-n
-returns-then-i-n c =
-    form_last c.loop-head.invariant c.field_end-e.result c.field_end-e.ensures c.cell_at-c.result c.cell_at-c.ensures
-    (sym (not-false _ c.if-not-field_formed.false-raw) ∙ c.field_formed.ensures) c.if-i-n.true
-
-pub overflow_add-q : goal.overflow_add-q
-overflow_add-q c =
-    omega (arith, stand_more c.loop-head.invariant.stand c.field_end-e.result c.field_end-e.ensures c.if-i-n.false)
-
-pub loop-head-smaller : goal.loop-head-smaller
-loop-head-smaller c = omega arith
-
-pub loop-head-preserved : goal.loop-head-preserved
-loop-head-preserved c =
-    form_more c.loop-head.invariant c.field_end-e.result c.field_end-e.ensures c.cell_at-c.result c.cell_at-c.ensures
-    (sym (not-false _ c.if-not-field_formed.false-raw) ∙ c.field_formed.ensures) c.if-i-n.false
+pub loop-i-preserved : goal.loop-i-preserved
+loop-i-preserved c =
+    form_more c.loop-i.invariant (omega arith) c.field_end-e.result c.field_end-e.ensures c.cell_at-c.result c.cell_at-c.ensures
+    (sym (not-false _ c.if-not-field_formed.false-raw) ∙ c.field_formed.ensures)

@@ -1,65 +1,19 @@
 use Prim.Native.Nat.{◌<◌}
 use native.Mathlib.Omega.{arith}
 use lib.ListN.{length}
-use Rattle.composer.proofs.ByteLaws.{rest_start, rest_ends, rest_tab, rest_on_lem}
+use Rattle.composer.proofs.ByteLaws.{rest_ends, rest_tab, rest_on_lem}
 use Rattle.composer.proofs.line.rest_of_line.Goals as goal
 use Rattle.composer.proofs.line.rest_of_line.Goals.{else-l-i-eq-TAB, then-l-i-eq-TAB}
-
-pub loop-i-init : goal.loop-i-init
-loop-i-init c = rest_start c.args.l.now c.args.p
-
-pub loop-i-2-init : goal.loop-i-2-init
-loop-i-2-init c = (c.loop-i.invariant, omega arith)
-
-pub bounds-l-i : goal.bounds-l-i
-bounds-l-i c =
-    let inside : c.loop-i-2.i < length c.args.l.now = omega (arith, c.loop-i-2.invariant.0.ahead, c.requires) in
-    inside
-
-pub overflow_add-i : goal.overflow_add-i
-overflow_add-i c =
-    let inside : c.loop-i-2.i < length c.args.l.now = omega (arith, c.loop-i-2.invariant.0.ahead, c.requires) in
-    omega (arith, inside)
-
-pub loop-i-2-smaller : goal.loop-i-2-smaller
-loop-i-2-smaller c =
-    let inside : c.loop-i-2.i < length c.args.l.now = omega (arith, c.loop-i-2.invariant.0.ahead, c.requires) in
-    omega (arith, inside)
 
 pub loop-i-2-preserved : goal.loop-i-2-preserved
 loop-i-2-preserved c =
     let inside : c.loop-i-2.i < length c.args.l.now = omega (arith, c.loop-i-2.invariant.0.ahead, c.requires) in
     (rest_on_lem c.loop-i-2.invariant.0 inside (λ e. omega (arith, c.loop-i-2-test.true)) (λ e. omega (arith, c.loop-i-2-test.true)), omega (arith, c.loop-i-2.invariant.1))
 
-pub bounds-l-i-in-loop-i : goal.bounds-l-i-in-loop-i
-bounds-l-i-in-loop-i c =
-    let inside : c.loop-i-2.i < length c.args.l.now = omega (arith, c.loop-i-2.invariant.0.ahead, c.requires) in
-    inside
-
 pub returns-then-l-i-eq-END : goal.returns-then-l-i-eq-END
 returns-then-l-i-eq-END c =
     let inside : c.loop-i-2.i < length c.args.l.now = omega (arith, c.loop-i-2.invariant.0.ahead, c.requires) in
     let said = rest_ends c.loop-i-2.invariant.0 inside c.if-l-i-eq-END.true in record { end = said.0; fields = said.1 }
-
-pub bounds-l-i-in-loop-i-2 : goal.bounds-l-i-in-loop-i-2
-bounds-l-i-in-loop-i-2 c =
-    let inside : c.loop-i-2.i < length c.args.l.now = omega (arith, c.loop-i-2.invariant.0.ahead, c.requires) in
-    inside
-
-pub overflow_add-fields : goal.overflow_add-fields
-overflow_add-fields c =
-    let inside : c.loop-i-2.i < length c.args.l.now = omega (arith, c.loop-i-2.invariant.0.ahead, c.requires) in
-    omega (arith, inside, c.loop-i-2.invariant.0.few)
-
-pub overflow_add-i-in-loop-i : goal.overflow_add-i-in-loop-i
-overflow_add-i-in-loop-i c =
-    let inside : c.loop-i-2.i < length c.args.l.now = omega (arith, c.loop-i-2.invariant.0.ahead, c.requires) in
-    omega (arith, inside)
-
-pub loop-i-smaller : goal.loop-i-smaller
-loop-i-smaller c =
-    let inside : c.loop-i-2.i < length c.args.l.now = omega (arith, c.loop-i-2.invariant.0.ahead, c.requires) in
-    omega (arith, inside, c.loop-i-2.invariant.1)
 
 pub loop-i-preserved : goal.loop-i-preserved
 loop-i-preserved c =

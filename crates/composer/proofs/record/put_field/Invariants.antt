@@ -1,11 +1,6 @@
 -- composer::record::put_field meets its contract: byte after byte up to the next tab, or to the line's end.
-use Prim.Native.Nat.{◌+◌, ◌-◌}
-use lib.ListN.{length}
 use Rattle.composer.proofs.PutLaws.{Copying}
 use Rattle.composer.proofs.record.put_field.Given as goal
 
 abbrev pub invariant-loop-i : goal.invariant-loop-i
 invariant-loop-i l = Copying l.x l.initial.out l.q l.p l.out l.i
-
-abbrev pub decreases-loop-i : goal.decreases-loop-i
-decreases-loop-i l = length l.x - (l.q + l.i)

@@ -10,9 +10,3 @@ invariant-loop-i l = l.p + reach l.z (drop l.p l.s) ≡ l.i + reach l.z (drop l.
 
 abbrev pub decreases-loop-i : goal.decreases-loop-i
 decreases-loop-i l = length l.s - l.i
-
-abbrev pub invariant-loop-i-2 : goal.invariant-loop-i-2
-invariant-loop-i-2 l = l.p + reach l.z (drop l.p l.s) ≡ l.i + reach l.z (drop l.i l.s)
-
-abbrev pub decreases-loop-i-2 : goal.decreases-loop-i-2
-decreases-loop-i-2 l = length l.s - l.i
