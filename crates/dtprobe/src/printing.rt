@@ -1,76 +1,92 @@
 // Printing an answer: lines of numbers, and what a lent slice holds.
+use crate::lent::{Columns, Table};
 use checker::Checked;
 use finder::Spot;
 use medium::MediumChecked;
 use output::Written;
-use std::io;
 use std::io::Write;
-use sums::Sums;
+use std::{fmt, io};
 use verdict::Verdict;
-
-fn number_then<W: Write>(writer: &mut W, n: u64, mark: u8) -> io::Result<()> {
-    write!(writer, "{n}")?;
-    writer.write_all(&[mark])
-}
-
-fn line_end<W: Write>(writer: &mut W) -> io::Result<()> {
-    writer.write_all(b"\n")
-}
-
-// Number and place, and the line goes on.
-fn number_and_place<W: Write>(writer: &mut W, v: Verdict) -> io::Result<()> {
-    number_then(writer, v.number as u64, b'\t')?;
-    number_then(writer, v.place as u64, b'\t')
-}
-
-// The three totals, and the line ends.
-fn totals<W: Write>(writer: &mut W, sums: Sums) -> io::Result<()> {
-    number_then(writer, sums.accounts.0, b'\t')?;
-    number_then(writer, sums.banks.0, b'\t')?;
-    number_then(writer, sums.cents.0, b'\n')
-}
 
 // Number and place, the count, and the three totals.
 pub(crate) fn outcome<W: Write>(writer: &mut W, checked: Checked) -> io::Result<()> {
-    number_and_place(writer, checked.verdict)?;
-    number_then(writer, checked.count, b'\t')?;
-    totals(writer, checked.sums)
+    let Verdict { number, place } = checked.verdict;
+    let sums = checked.sums;
+    writeln!(
+        writer,
+        "{number}\t{place}\t{}\t{}\t{}\t{}",
+        checked.count, sums.accounts.0, sums.banks.0, sums.cents.0
+    )
 }
 
 // Number and place, the numbers of files and of payments.
 pub(crate) fn medium<W: Write>(writer: &mut W, checked: MediumChecked) -> io::Result<()> {
-    number_and_place(writer, checked.verdict)?;
-    number_then(writer, checked.files, b'\t')?;
-    number_then(writer, checked.payments, b'\n')
-}
-
-// Number and place, the length written; then the whole output.
-pub(crate) fn written<W: Write>(writer: &mut W, w: Written, out: &[u8]) -> io::Result<()> {
-    number_and_place(writer, w.verdict)?;
-    number_then(writer, w.length as u64, b'\n')?;
-    writer.write_all(out)?;
-    line_end(writer)
-}
-
-// Each row of a column, in one line.
-pub(crate) fn rows<W: Write>(writer: &mut W, column: &[u64]) -> io::Result<()> {
-    for row in column {
-        number_then(writer, *row, b' ')?;
-    }
-    line_end(writer)
+    let Verdict { number, place } = checked.verdict;
+    writeln!(
+        writer,
+        "{number}\t{place}\t{}\t{}",
+        checked.files, checked.payments
+    )
 }
 
 // Number and place, and where a stretch of the file begins and ends.
-pub(crate) fn spot<W: Write>(writer: &mut W, s: Spot) -> io::Result<()> {
-    number_and_place(writer, s.verdict)?;
-    number_then(writer, s.from as u64, b'\t')?;
-    number_then(writer, s.to as u64, b'\n')
+pub(crate) fn spot<W: Write>(writer: &mut W, spot: Spot) -> io::Result<()> {
+    let Verdict { number, place } = spot.verdict;
+    writeln!(writer, "{number}\t{place}\t{}\t{}", spot.from, spot.to)
+}
+
+// Number and place, the length of a text; then some bytes, and the line ends.
+fn with_bytes<W: Write>(
+    writer: &mut W,
+    verdict: Verdict,
+    length: usize,
+    bytes: &[u8],
+) -> io::Result<()> {
+    let Verdict { number, place } = verdict;
+    writeln!(writer, "{number}\t{place}\t{length}")?;
+    writer.write_all(bytes)?;
+    writeln!(writer)
+}
+
+// Number and place, the length written; then the whole output.
+pub(crate) fn written<W: Write>(writer: &mut W, written: Written, out: &[u8]) -> io::Result<()> {
+    with_bytes(writer, written.verdict, written.length, out)
 }
 
 // Number and place, the length of a text; then the text.
-pub(crate) fn text<W: Write>(writer: &mut W, v: Verdict, t: &[u8]) -> io::Result<()> {
-    number_and_place(writer, v)?;
-    number_then(writer, t.len() as u64, b'\n')?;
-    writer.write_all(t)?;
-    line_end(writer)
+pub(crate) fn text<W: Write>(writer: &mut W, verdict: Verdict, text: &[u8]) -> io::Result<()> {
+    with_bytes(writer, verdict, text.len(), text)
+}
+
+// A column: every row followed by a blank.
+#[derive(Clone, Copy)]
+struct Column<'a>(&'a [u64]);
+
+impl fmt::Display for Column<'_> {
+    fn fmt<W: fmt::Write>(&self, f: &mut fmt::Formatter<W>) -> fmt::Result {
+        for row in self.0 {
+            write!(f, "{row} ")?;
+        }
+        Ok(())
+    }
+}
+
+// A line for each column.
+impl fmt::Display for Columns {
+    fn fmt<W: fmt::Write>(&self, f: &mut fmt::Formatter<W>) -> fmt::Result {
+        writeln!(f, "{}", Column(&self.c4))?;
+        writeln!(f, "{}", Column(&self.c5))?;
+        writeln!(f, "{}", Column(&self.c12))?;
+        writeln!(f, "{}", Column(&self.start))
+    }
+}
+
+impl fmt::Display for Table {
+    fn fmt<W: fmt::Write>(&self, f: &mut fmt::Formatter<W>) -> fmt::Result {
+        writeln!(f, "{}", Column(&self.start))?;
+        writeln!(f, "{}", Column(&self.count))?;
+        writeln!(f, "{}", Column(&self.sum5))?;
+        writeln!(f, "{}", Column(&self.sum4))?;
+        writeln!(f, "{}", Column(&self.sum12))
+    }
 }

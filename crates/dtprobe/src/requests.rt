@@ -1,140 +1,103 @@
-// Reading a request: the numbers of its head line, and the content of the slices that it lends.
-ghost use Rattle.std.specs.Prelude.{◌≤◌, IfOk};
-ghost use Rattle.std.specs.Io.{ReadsAtMost};
-
-use fields::Number;
+// Reading a request: its head line, the input, and what the slices hold that it lends.
+use crate::lent::{Columns, Source, Table, read_numbers};
 use finder::Wanted;
+use std::alloc::{AllocError, Global};
 use std::io;
 use std::io::Read;
 
-// The bytes of a head line, and of one for a call over media, which has more numbers.
-pub(crate) const HEAD: usize = 37;
-
-pub(crate) const MEDIUM_HEAD: usize = 86;
-
-// How many numbers a head line has, and one for a call over media; where they begin, how far they stand apart, and how many digits each has.
+// How many numbers a head line has, and one for a call over media.
 const NUMBERS: usize = 5;
 
 const MEDIUM_NUMBERS: usize = 12;
 
-const FIRST_NUMBER: usize = 2;
-
-const NUMBER_STEP: usize = 7;
-
-const NUMBER_DIGITS: usize = 6;
-
-// No number of a head line: more than six digits can tell.
-const NO_NUMBER: usize = 1000000;
-
-// The largest number of six digits.
-const LARGEST: usize = 999999;
-
-// The digits of a row.
-const ROW: usize = 17;
-
-// Whether the head line is one for a call over media: then it goes on behind the first HEAD bytes.
-fn is_over_media(head: &[u8; MEDIUM_HEAD]) -> bool {
-    (head[0] == b'N') | (head[0] == b'O')
+// Why there is no request: there is none of that form, or reading it failed.
+#[derive(Debug, Drop)]
+pub(crate) enum NoRequest {
+    Bad,
+    Failed(io::Error),
 }
 
-// Reads what the head line has behind its first HEAD bytes, and answers whether that was whole. What it does not have stays 0, which is no digit.
-pub(crate) fn read_rest<R: Read>(reader: &mut R, head: &mut [u8; MEDIUM_HEAD]) -> io::Result<bool> {
-    if !is_over_media(head) {
-        return Ok(true);
+impl From<io::Error> for NoRequest {
+    fn from(e: io::Error) -> NoRequest {
+        NoRequest::Failed(e)
     }
-    let n = reading::read_full(reader, &mut head[HEAD..])?;
-    Ok(n == MEDIUM_HEAD - HEAD)
 }
 
-// Number i of a head line, from 0; NO_NUMBER where there are no six digits.
-pub(crate) fn head_number(head: &[u8; MEDIUM_HEAD], i: usize) -> usize {
-    if i >= MEDIUM_NUMBERS {
-        return NO_NUMBER;
+impl From<AllocError> for NoRequest {
+    fn from(e: AllocError) -> NoRequest {
+        NoRequest::Failed(io::Error::from(e))
     }
-    let read = fields::number_at(head, FIRST_NUMBER + NUMBER_STEP * i, NUMBER_DIGITS);
-    let Number::Is(n, _) = read else {
-        return NO_NUMBER;
-    };
-    n as usize
 }
 
-// Whether the head line has all its numbers.
-pub(crate) fn has_numbers(head: &[u8; MEDIUM_HEAD]) -> bool {
-    let mut numbers = NUMBERS;
-    if is_over_media(head) {
-        numbers = MEDIUM_NUMBERS;
-    }
-    (0..numbers).all(|i| head_number(head, i) != NO_NUMBER)
+// What is asked for, with what is lent beside the input.
+#[derive(Drop)]
+pub(crate) enum Call {
+    Check,
+    CheckMedium,
+    Load(Columns),
+    LoadMedium(Columns, Table),
+    List(Vec<u8>),
+    Compose(Vec<u8>),
+    Find(usize),
+    Locate(usize, Wanted),
+    View(usize, Wanted),
 }
 
-// Number i of a head line that is no length: the largest there is stands for the largest of all.
-pub(crate) fn index_at(head: &[u8; MEDIUM_HEAD], i: usize) -> usize {
-    let n = head_number(head, i);
-    if n == LARGEST {
-        return usize::MAX;
+impl Call {
+    // Reads what the call of this letter has in the head line and behind the input.
+    fn read<R: Read>(letter: u8, source: &mut Source<'_, R>) -> Result<Call, NoRequest> {
+        match letter {
+            b'C' => Ok(Call::Check),
+            b'N' => Ok(Call::CheckMedium),
+            b'L' => Ok(Call::Load(Columns::read(source)?)),
+            b'O' => Ok(Call::LoadMedium(Columns::read(source)?, Table::read(source)?)),
+            b'P' => Ok(Call::List(source.bytes()?)),
+            b'M' => Ok(Call::Compose(source.bytes()?)),
+            b'F' => Ok(Call::Find(source.index()?)),
+            b'H' => Ok(Call::Locate(source.index()?, wanted(source)?)),
+            b'V' => Ok(Call::View(source.index()?, wanted(source)?)),
+            _ => Err(NoRequest::Bad),
+        }
     }
-    n
 }
 
 // Which text the head line names: a field by its number, else a part.
-pub(crate) fn wanted(head: &[u8; MEDIUM_HEAD]) -> Wanted {
-    let field = head_number(head, 2);
-    if field == 14 {
-        return Wanted::C14a;
+fn wanted<R: Read>(source: &mut Source<'_, R>) -> Result<Wanted, NoRequest> {
+    let field = source.number()?;
+    let part = source.index()?;
+    match field {
+        14 => Ok(Wanted::C14a),
+        15 => Ok(Wanted::C15),
+        16 => Ok(Wanted::C16),
+        _ => Ok(Wanted::Part(part)),
     }
-    if field == 15 {
-        return Wanted::C15;
-    }
-    if field == 16 {
-        return Wanted::C16;
-    }
-    Wanted::Part(index_at(head, 3))
 }
 
-// Reads the next n bytes to the start of buf, and answers how many it has read: fewer than n where buf has no room for them or the input ends.
-pub(crate) fn read_bytes<R: Read>(reader: &mut R, buf: &mut [u8], n: usize) -> io::Result<usize>
-    ensures in_buf { ReadsAtMost result buf.new }
-    ensures no_more { IfOk result (λ count. count ≤ n) }
-{
-    if n > buf.len() {
-        return Ok(0);
-    }
-    reading::read_full(reader, &mut buf[..n])
+#[derive(Drop)]
+pub(crate) struct Request {
+    pub(crate) input: Vec<u8>,
+    pub(crate) call: Call,
 }
 
-// The number that a row tells, or 0 where its bytes are no digits.
-fn row_of(digits: &[u8; ROW]) -> u64 {
-    let read = fields::number_at(digits, 0, ROW);
-    let Number::Is(row, _) = read else {
-        return 0;
-    };
-    row
-}
-
-// Reads the next row; None where the input ends within it.
-fn read_row<R: Read>(reader: &mut R) -> io::Result<Option<u64>> {
-    let mut digits = [0u8; ROW];
-    let got = reading::read_full(reader, &mut digits)?;
-    if got != ROW {
-        return Ok(None);
-    }
-    Ok(Some(row_of(&digits)))
-}
-
-// Reads the next n rows to the start of a column, and answers how many it has read: fewer than n where the column has no room for them or the
-// input ends.
-pub(crate) fn read_rows<R: Read>(reader: &mut R, column: &mut [u64], n: usize) -> io::Result<usize>
-    ensures in_column { ReadsAtMost result column.new }
-    ensures no_more { IfOk result (λ count. count ≤ n) }
-{
-    if n > column.len() {
-        return Ok(0);
-    }
-    for i in 0..n {
-        let Some(row) = read_row(reader)? else {
-            return Ok(i);
+impl Request {
+    // Reads the next request; None where there is none behind the last.
+    pub(crate) fn read<R: Read>(
+        alloc: Global,
+        reader: &mut R,
+    ) -> Result<Option<Request>, NoRequest> {
+        let mut letter = [0u8; 1];
+        if reading::read_full(reader, &mut letter)? == 0 {
+            return Ok(None);
+        }
+        let [letter] = letter;
+        let count = match letter {
+            b'N' | b'O' => MEDIUM_NUMBERS,
+            _ => NUMBERS,
         };
-        column[i] = row;
+        let numbers = read_numbers(alloc, reader, count)?;
+        let mut source = Source::new(alloc, reader, numbers);
+        let input = source.bytes()?;
+        let call = Call::read(letter, &mut source)?;
+        Ok(Some(Request { input, call }))
     }
-    Ok(n)
 }

@@ -1,0 +1,171 @@
+// What a request has behind its letter: the numbers of its head line, and bytes and columns of the lengths that they tell.
+ghost use Rattle.std.specs.Prelude.{◌≡◌, vec_len, IfOk};
+
+use crate::requests::NoRequest;
+use std::alloc::Global;
+use std::io::Read;
+use std::vec::IntoIter;
+
+// The most bytes of an input, and of a lent output.
+const MOST_BYTES: usize = 65536;
+
+// The most rows of a column.
+const MOST_ROWS: usize = 256;
+
+// The bytes of a number of a head line: a blank and six digits.
+const NUMBER: usize = 7;
+
+// The largest number of six digits.
+const LARGEST: usize = 999999;
+
+// The digits of a row.
+const ROW: usize = 17;
+
+// The number that digits tell; None where another sign is among them.
+fn number_of(digits: &[u8]) -> Option<u64> {
+    digits.iter().try_fold(0u64, |number, sign| {
+        let digit = char::from(*sign).to_digit(10)?;
+        number.checked_mul(10)?.checked_add(u64::from(digit))
+    })
+}
+
+// The next n bytes. Where the input ends before, the request is none.
+fn read_bytes<R: Read>(alloc: Global, reader: &mut R, n: usize) -> Result<Vec<u8>, NoRequest>
+    ensures { IfOk result (λ read. vec_len read ≡ n) }
+{
+    let read = reading::read_up_to(alloc, reader, n)?;
+    if read.len() < n {
+        return Err(NoRequest::Bad);
+    }
+    Ok(read)
+}
+
+// The next n rows of a column: each is a number in digits, or 0 where they are no digits.
+fn read_rows<R: Read>(alloc: Global, reader: &mut R, n: usize) -> Result<Vec<u64>, NoRequest>
+    ensures { IfOk result (λ rows. vec_len rows ≡ n) }
+{
+    if n > MOST_ROWS {
+        return Err(NoRequest::Bad);
+    }
+    let digits = read_bytes(alloc, reader, n * ROW)?;
+    let rows = digits
+        .chunks_exact(ROW)
+        .map(|row| number_of(row).unwrap_or(0))
+        .collect(alloc)?;
+    Ok(rows)
+}
+
+// The next N bytes of a head line. Where the input ends before, the request is none.
+fn read_array<R: Read, const N: usize>(reader: &mut R) -> Result<[u8; N], NoRequest> {
+    let mut bytes = [0u8; N];
+    let n = reading::read_full(reader, &mut bytes)?;
+    if n < N {
+        return Err(NoRequest::Bad);
+    }
+    Ok(bytes)
+}
+
+// The next number of a head line, and the blank before it.
+fn read_number<R: Read>(reader: &mut R) -> Result<usize, NoRequest> {
+    let text: [u8; NUMBER] = read_array(reader)?;
+    let number = number_of(&text[1..]).ok_or(NoRequest::Bad)?;
+    Ok(number as usize)
+}
+
+// So many numbers of a head line, and the line end.
+pub(crate) fn read_numbers<R: Read>(
+    alloc: Global,
+    reader: &mut R,
+    count: usize,
+) -> Result<Vec<usize>, NoRequest> {
+    let numbers = (0..count).map(|_| read_number(reader)).try_collect(alloc)?;
+    let _line_end: [u8; 1] = read_array(reader)?;
+    Ok(numbers)
+}
+
+// Where the rest of a request comes from: the numbers of its head line, of which each is taken once, and the reader.
+#[derive(Drop)]
+pub(crate) struct Source<'a, R> {
+    alloc: Global,
+    reader: &'a mut R,
+    numbers: IntoIter<usize>,
+}
+
+impl<'a, R: Read> Source<'a, R> {
+    pub(crate) fn new(alloc: Global, reader: &'a mut R, numbers: Vec<usize>) -> Source<'a, R> {
+        Source {
+            alloc,
+            reader,
+            numbers: numbers.into_iter(),
+        }
+    }
+
+    pub(crate) fn number(&mut self) -> Result<usize, NoRequest> {
+        self.numbers.next().ok_or(NoRequest::Bad)
+    }
+
+    // A number that is no length: the largest there is stands for the largest of all.
+    pub(crate) fn index(&mut self) -> Result<usize, NoRequest> {
+        match self.number()? {
+            LARGEST => Ok(usize::MAX),
+            number => Ok(number),
+        }
+    }
+
+    // As many bytes as the next number tells.
+    pub(crate) fn bytes(&mut self) -> Result<Vec<u8>, NoRequest> {
+        let n = self.number()?;
+        if n > MOST_BYTES {
+            return Err(NoRequest::Bad);
+        }
+        read_bytes(self.alloc, self.reader, n)
+    }
+
+    // As many rows as the next number tells.
+    fn rows(&mut self) -> Result<Vec<u64>, NoRequest> {
+        let n = self.number()?;
+        read_rows(self.alloc, self.reader, n)
+    }
+}
+
+// The columns that a load fills.
+#[derive(Drop)]
+pub(crate) struct Columns {
+    pub(crate) c4: Vec<u64>,
+    pub(crate) c5: Vec<u64>,
+    pub(crate) c12: Vec<u64>,
+    pub(crate) start: Vec<u64>,
+}
+
+impl Columns {
+    pub(crate) fn read<R: Read>(source: &mut Source<'_, R>) -> Result<Columns, NoRequest> {
+        Ok(Columns {
+            c4: source.rows()?,
+            c5: source.rows()?,
+            c12: source.rows()?,
+            start: source.rows()?,
+        })
+    }
+}
+
+// The table of files that a load of a medium fills.
+#[derive(Drop)]
+pub(crate) struct Table {
+    pub(crate) start: Vec<u64>,
+    pub(crate) count: Vec<u64>,
+    pub(crate) sum5: Vec<u64>,
+    pub(crate) sum4: Vec<u64>,
+    pub(crate) sum12: Vec<u64>,
+}
+
+impl Table {
+    pub(crate) fn read<R: Read>(source: &mut Source<'_, R>) -> Result<Table, NoRequest> {
+        Ok(Table {
+            start: source.rows()?,
+            count: source.rows()?,
+            sum5: source.rows()?,
+            sum4: source.rows()?,
+            sum12: source.rows()?,
+        })
+    }
+}
