@@ -3,17 +3,16 @@
 -- `leaf_right`), and with rules refused by its bytes, a rule broken, all kept (`field_fails`, `field_broken`, `field_holds`). Where the code
 -- tests that every byte is a blank or a zero, the form compares with a row of them: the two agree by induction over the bytes (`same_fill`).
 use Rattle.std.proofs.Common.{◌≡◌, ℕ, ◌+◌, ◌≤◌, Bool, true, false, not, Ok, Err, eqb, leb, List, [], ◌∷◌, length, take, drop, replicate, sym, refl, ◌∙◌, arith, length-drop, length-take-le, eq-eqb, ne_eqb, eqb-true, leb-false, leb-true}
-use lib.Pointwise.{pointwise}
 use borrow.Author.Tests.{eqb-false}
 use Rattle.form.specs.Kind.{Kind, fixed, digits, maybe, Value, width, every, same}
 use Rattle.form.specs.Form.{Rule}
-use Rattle.form.specs.Reader.{Reason, short, not_fixed, not_sign, breaks, has, lacks, if_so, optional, judge, obey}
+use Rattle.form.specs.Reader.{Reason, short, not_fixed, not_sign, breaks, has, lacks, if_so, if_whole, optional, judge, obey}
 use Rattle.form.specs.Place.{look_at, field_at}
 use Rattle.document.specs.Signs.{sign}
 use Rattle.diskette.specs.Fields.{text27}
 use Rattle.verdict.specs.Verdicts.{number_of}
 use Rattle.fields.specs.declared.Refusal.{Refusal}
-use Rattle.fields.specs.Answers.{refusal_of, refusal_at, Reading, Telling, of_field, numbers}
+use Rattle.fields.specs.Answers.{refusal_of, refusal_at, Reading, Telling, of_field, passings, numbers}
 use Rattle.fields.proofs.WalkLaws.{Fails, fails}
 use Rattle.fields.proofs.AnswerLaws.{number_is}
 
@@ -91,12 +90,18 @@ module _ (s : List ℕ) (p : ℕ) (e : leb (p + 27) (length s) ≡ true) where
   unfolding judge
   text_has i = rw (is_whole text27 s p 27 refl e, i)
 
--- the code's comparison of two stretches is the form's
-pub same_pointwise : (f g : List ℕ) → pointwise eqb f g ≡ same g f
-same_pointwise [] [] = refl
-same_pointwise [] (y ∷ ys) = refl
-same_pointwise (x ∷ xs) [] = refl
-same_pointwise (x ∷ xs) (y ∷ ys) = rw (eqb_turn x y, same_pointwise xs ys)
+-- a text that was passed is whole, it is the 27 bytes from p on, and behind it is p + 27
+pub text_passed : (s : List ℕ) (p : ℕ) {q : ℕ} → ◌≡◌ {A = Reading ℕ} (Ok q) (of_field passings p (p + 27) (look_at text27 s p))
+    → (p + 27 ≤ length s) × (look_at text27 s p ≡ has (take 27 (drop p s))) × (q ≡ p + 27)
+unfolding look_at judge of_field
+text_passed s p {q} told = by (leb (p + 27) (length s)) (every sign (take 27 (drop p s))) refl refl told
+  where
+    by : (b e : Bool) → leb (p + 27) (length s) ≡ b → every sign (take 27 (drop p s)) ≡ e
+        → ◌≡◌ {A = Reading ℕ} (Ok q) (of_field passings p (p + 27) (if_whole b (if_so e (take 27 (drop p s)) not_sign)))
+        → (p + 27 ≤ length s) × (if_whole (leb (p + 27) (length s)) (if_so (every sign (take 27 (drop p s))) (take 27 (drop p s)) not_sign) ≡ has (take 27 (drop p s))) × (q ≡ p + 27)
+    by true true b e t = (leb-true (p + 27) (length s) b, rw (b, e), cc)
+    by true false b e t = absurd cc
+    by false e b i t = absurd cc
 
 -- ---- then the rules
 

@@ -2,14 +2,14 @@
 #![tactic(auto)]
 
 ghost use Rattle.std.specs.Prelude.{◌≡◌, ◌+◌, ◌≤◌, min, length, replicate, nat_eq, nat_le};
-ghost use Rattle.form.specs.Kind.{fixed, digits, maybe, choice, every, blanks};
+ghost use Rattle.form.specs.Kind.{fixed, digits, maybe, choice, every, same, blanks};
 ghost use Rattle.form.specs.Place.{look_at, field_at};
 ghost use Rattle.verdict.specs.Verdicts.{refusing};
 ghost use Rattle.document.specs.Signs.{zeros, sign};
 ghost use Rattle.document.specs.Rules.{file_kinds};
 ghost use Rattle.diskette.specs.Fields.{text27, rules_of_names};
 ghost use Rattle.fields.specs.Answers.{refusal_of, why, of_field, passings, numbers, maybe_numbers, kinds};
-ghost use Rattle.fields.specs.Stretches.{BytesAt, SignsAt, widest, digits_of, number_in};
+ghost use Rattle.fields.specs.Stretches.{widest, digits_of, number_in};
 
 use layout::width;
 use verdict::Verdict;
@@ -66,6 +66,7 @@ pub fn why<T: Copy>(read: Reading<T>) -> Refusal
 }
 
 // Whether a field of w bytes at p ends within len bytes.
+#[inline(always)]
 pub fn whole(len: usize, p: usize, w: usize) -> bool
     ensures { result ≡ nat_le (p + w) len }
 {
@@ -75,17 +76,21 @@ pub fn whole(len: usize, p: usize, w: usize) -> bool
     p <= len - w
 }
 
-// The bytes of a field of w bytes at p, which is refused where the file ends before it is whole.
-fn bytes_at(s: &[u8], p: usize, w: usize) -> Reading<&[u8]>
-    ensures { BytesAt s.now p w result }
+// Whether f and want are the same bytes.
+#[inline(always)]
+fn same_bytes(f: &[u8], want: &[u8]) -> bool
+    requires { length f.now ≡ length want.now }
+    ensures { result ≡ same want.now f.now }
 {
-    if !whole(s.len(), p, w) {
-        return Err(refuse(refusals::SHORT, p));
+    let mut all = true;
+    for i in 0..f.len() {
+        all = all & (want[i] == f[i]);
     }
-    Ok(&s[p..p + w])
+    all
 }
 
 // Whether every byte of f is b. All of them are compared, so that this is a few steps of a processor's vector unit.
+#[inline(always)]
 fn all_are(f: &[u8], b: u8) -> bool
     ensures { result ≡ every (λ x. nat_eq x b) f.now }
 {
@@ -98,6 +103,7 @@ fn all_are(f: &[u8], b: u8) -> bool
 
 // The number that the bytes of f spell, at most 17 of them; none where one is no digit. A byte less the digit 0, in a byte's arithmetic, is above 9
 // where it is no digit.
+#[inline(always)]
 fn digits_of(f: &[u8]) -> Option<u64>
     requires { length f.now ≤ widest }
     ensures { result ≡ digits_of f.now }
@@ -130,6 +136,7 @@ const HALF: usize = 16;
 const SECOND_HALF: usize = width::TEXT - HALF;
 
 // Whether all bytes of a text are permitted signs.
+#[inline(always)]
 fn are_signs(f: &[u8]) -> bool
     requires { length f.now ≡ 27 }
     ensures { result ≡ every sign f.now }
@@ -141,29 +148,40 @@ fn are_signs(f: &[u8]) -> bool
     permitted
 }
 
+// The leaves are inlined wherever they are called. The compiler takes a test for `Ok`, the first variant, for one that mostly fails, and would call
+// the fields behind it, though nearly every field of a file has its content.
+
 // The fixed bytes want at p.
+#[inline(always)]
 pub fn fixed_at(s: &[u8], p: usize, want: &[u8]) -> Reading<usize>
     ensures { result ≡ of_field passings p (p + length want.now) (look_at (fixed want.now) s.now p) }
 {
-    let f = bytes_at(s, p, want.len())?;
-    if f != want {
+    let w = want.len();
+    if !whole(s.len(), p, w) {
+        return Err(refuse(refusals::SHORT, p));
+    }
+    if !same_bytes(&s[p..p + w], want) {
         return Err(refuse(refusals::NOT_FIXED, p));
     }
-    Ok(p + want.len())
+    Ok(p + w)
 }
 
 // w bytes b at p.
+#[inline(always)]
 fn fill_at(s: &[u8], p: usize, w: usize, b: u8) -> Reading<usize>
     ensures { result ≡ of_field passings p (p + w) (look_at (fixed (replicate w b)) s.now p) }
 {
-    let f = bytes_at(s, p, w)?;
-    if !all_are(f, b) {
+    if !whole(s.len(), p, w) {
+        return Err(refuse(refusals::SHORT, p));
+    }
+    if !all_are(&s[p..p + w], b) {
         return Err(refuse(refusals::NOT_FIXED, p));
     }
     Ok(p + w)
 }
 
 // w blanks at p.
+#[inline(always)]
 pub fn blanks_at(s: &[u8], p: usize, w: usize) -> Reading<usize>
     ensures { result ≡ of_field passings p (p + w) (look_at (fixed (blanks w)) s.now p) }
 {
@@ -171,6 +189,7 @@ pub fn blanks_at(s: &[u8], p: usize, w: usize) -> Reading<usize>
 }
 
 // w zeros at p.
+#[inline(always)]
 pub fn zeros_at(s: &[u8], p: usize, w: usize) -> Reading<usize>
     ensures { result ≡ of_field passings p (p + w) (look_at (fixed (zeros w)) s.now p) }
 {
@@ -181,6 +200,7 @@ pub fn zeros_at(s: &[u8], p: usize, w: usize) -> Reading<usize>
 const WIDEST: usize = width::E6;
 
 // The number that f spells, the bytes of a field at p.
+#[inline(always)]
 fn number_in(f: &[u8], p: usize) -> Reading<u64>
     requires { length f.now ≤ widest }
     ensures { result ≡ number_in f.now p }
@@ -189,12 +209,15 @@ fn number_in(f: &[u8], p: usize) -> Reading<u64>
 }
 
 // A number of w digits at p; 17 where w is more.
+#[inline(always)]
 pub fn number_at(s: &[u8], p: usize, w: usize) -> Reading<(u64, usize)>
     ensures { result ≡ of_field numbers p (p + min w widest) (look_at (digits (min w widest)) s.now p) }
 {
     let n = w.min(WIDEST);
-    let f = bytes_at(s, p, n)?;
-    let v = number_in(f, p)?;
+    if !whole(s.len(), p, n) {
+        return Err(refuse(refusals::SHORT, p));
+    }
+    let v = number_in(&s[p..p + n], p)?;
     Ok((v, p + n))
 }
 
@@ -203,7 +226,10 @@ pub fn maybe_number_at(s: &[u8], p: usize, w: usize) -> Reading<(Option<u64>, us
     ensures { result ≡ of_field maybe_numbers p (p + min w widest) (look_at (maybe (min w widest)) s.now p) }
 {
     let n = w.min(WIDEST);
-    let f = bytes_at(s, p, n)?;
+    if !whole(s.len(), p, n) {
+        return Err(refuse(refusals::SHORT, p));
+    }
+    let f = &s[p..p + n];
     if all_are(f, b' ') {
         return Ok((None, p + n));
     }
@@ -211,43 +237,41 @@ pub fn maybe_number_at(s: &[u8], p: usize, w: usize) -> Reading<(Option<u64>, us
     Ok((Some(v), p + n))
 }
 
-// The bytes of a text at p, 27 of them and each a permitted sign.
-fn signs_at(s: &[u8], p: usize) -> Reading<&[u8]>
-    ensures { SignsAt s.now p result }
-{
-    let f = bytes_at(s, p, width::TEXT)?;
-    if !are_signs(f) {
-        return Err(refuse(refusals::NO_SIGN, p));
-    }
-    Ok(f)
-}
-
 // A text of 27 signs at p.
+#[inline(always)]
 pub fn text_at(s: &[u8], p: usize) -> Reading<usize>
     ensures { result ≡ of_field passings p (p + 27) (look_at text27 s.now p) }
 {
-    signs_at(s, p)?;
+    if !whole(s.len(), p, width::TEXT) {
+        return Err(refuse(refusals::SHORT, p));
+    }
+    if !are_signs(&s[p..p + width::TEXT]) {
+        return Err(refuse(refusals::NO_SIGN, p));
+    }
     Ok(p + width::TEXT)
 }
 
 // A text of 27 signs at p, not all of them blanks.
+#[inline(always)]
 pub fn name_at(s: &[u8], p: usize) -> Reading<usize>
     ensures { result ≡ of_field passings p (p + 27) (field_at text27 rules_of_names s.now p) }
 {
-    let f = signs_at(s, p)?;
-    if all_are(f, b' ') {
+    let q = text_at(s, p)?;
+    if all_are(&s[p..p + width::TEXT], b' ') {
         return Err(refuse(refusals::CONDITION, p));
     }
-    Ok(p + width::TEXT)
+    Ok(q)
 }
 
 // The kind of file, A3, at p.
 pub fn kind_at(s: &[u8], p: usize) -> Reading<(FileKind, usize)>
     ensures { result ≡ of_field kinds p (p + 2) (look_at (choice 2 file_kinds) s.now p) }
 {
-    let letters = bytes_at(s, p, width::A3)?;
-    let first = letters[0];
-    let second = letters[1];
+    if !whole(s.len(), p, width::A3) {
+        return Err(refuse(refusals::SHORT, p));
+    }
+    let first = s[p];
+    let second = s[p + 1];
     let credit = first == b'G';
     let customer = second == b'K';
     let named = (credit | (first == b'L')) & (customer | (second == b'B'));

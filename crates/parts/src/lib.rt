@@ -87,6 +87,7 @@ fn part_at(s: &[u8], p: usize) -> &[u8]
 }
 
 // The mark of a part, where left more parts are to come.
+#[inline(always)]
 fn mark_in(part: &[u8], room: u64, left: u64) -> Reading<(u64, usize)>
     ensures { result ≡ of_field numbers 0 2 (field_at (digits 2) (mark_rules room left) part.now 0) }
 {
@@ -101,6 +102,7 @@ fn mark_in(part: &[u8], room: u64, left: u64) -> Reading<(u64, usize)>
 }
 
 // The text of a part.
+#[inline(always)]
 fn words_in(part: &[u8]) -> Reading<usize>
     ensures { result ≡ of_field passings 2 29 (look_at text27 part.now 2) }
 {
@@ -108,6 +110,7 @@ fn words_in(part: &[u8]) -> Reading<usize>
 }
 
 // The blanks behind part i, before a next one: only behind a part that fills its section.
+#[inline(always)]
 fn closing_before(s: &[u8], p: usize, i: u64) -> Reading<usize>
     ensures { result ≡ of_read passings (read_at (closing_blanks (section i) (to_next_part i)) s.now p) }
 {
@@ -121,6 +124,7 @@ fn closing_before(s: &[u8], p: usize, i: u64) -> Reading<usize>
 }
 
 // The blanks behind the last part, i.
+#[inline(always)]
 fn closing_behind(s: &[u8], p: usize, i: u64) -> Reading<usize>
     ensures { result ≡ of_read passings (read_at (closing_blanks (section i) (to_section_end i)) s.now p) }
 {
@@ -138,6 +142,7 @@ pub fn count_at(s: &[u8], p: usize) -> usize
 }
 
 // The k parts of a payment from at on, with the blanks that close its sections.
+#[inline(always)]
 pub fn read_parts(s: &[u8], at: usize, k: u64) -> Reading<usize>
     ensures { result ≡ of_read passings (read_at (parts k 0 15) s.now at) }
 {

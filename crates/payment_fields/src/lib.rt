@@ -58,6 +58,7 @@ pub fn supplement_ok(key: u64, v: u64) -> bool
 }
 
 // A number of w digits at p, 17 where w is more, for which the test holds; one for which it does not is refused with this number.
+#[inline(always)]
 fn tested_at<F: Fn(u64) -> bool>(
     s: &[u8],
     p: usize,
@@ -76,6 +77,7 @@ fn tested_at<F: Fn(u64) -> bool>(
 }
 
 // A bank code: C10, and C4 before it is added.
+#[inline(always)]
 fn bank_code_at(s: &[u8], p: usize) -> Reading<(u64, usize)>
     ensures { result ≡ of_field numbers p (p + 8) (field_at (digits 8) rules_c10 s.now p) }
 {
@@ -83,6 +85,7 @@ fn bank_code_at(s: &[u8], p: usize) -> Reading<(u64, usize)>
 }
 
 // An account number: C11, and C5 before it is added.
+#[inline(always)]
 fn account_at(s: &[u8], p: usize) -> Reading<(u64, usize)>
     ensures { result ≡ of_field numbers p (p + 10) (field_at (digits 10) rules_c11 s.now p) }
 {
@@ -91,6 +94,7 @@ fn account_at(s: &[u8], p: usize) -> Reading<(u64, usize)>
 
 // C4, added to the sum of bank codes.
 #[tactic(auto, using(crate::proofs::Steps::c4_steps))]
+#[inline(always)]
 fn bank_code_into(s: &[u8], p: usize, sum: BankCodeSum) -> Reading<(BankCodeSum, usize)>
     ensures { result ≡ of_field (bank_codes_on sum.0) p (p + 8) (field_at (digits 8) (rules_c4 sum.0) s.now p) }
 {
@@ -103,6 +107,7 @@ fn bank_code_into(s: &[u8], p: usize, sum: BankCodeSum) -> Reading<(BankCodeSum,
 
 // C5, added to the sum of account numbers.
 #[tactic(auto, using(crate::proofs::Steps::c5_steps))]
+#[inline(always)]
 fn account_into(s: &[u8], p: usize, sum: AccountSum) -> Reading<(AccountSum, usize)>
     ensures { result ≡ of_field (accounts_on sum.0) p (p + 10) (field_at (digits 10) (rules_c5 sum.0) s.now p) }
 {
@@ -114,6 +119,7 @@ fn account_into(s: &[u8], p: usize, sum: AccountSum) -> Reading<(AccountSum, usi
 }
 
 // C6.
+#[inline(always)]
 fn customer_at(s: &[u8], p: usize) -> Reading<(u64, usize)>
     ensures { result ≡ of_field numbers p (p + 13) (field_at (digits 13) rules_c6 s.now p) }
 {
@@ -121,6 +127,7 @@ fn customer_at(s: &[u8], p: usize) -> Reading<(u64, usize)>
 }
 
 // C7a.
+#[inline(always)]
 fn key_at(s: &[u8], p: usize, kind: FileKind) -> Reading<(u64, usize)>
     ensures { result ≡ of_field numbers p (p + 2) (field_at (digits 2) (rules_c7a (letters_of kind)) s.now p) }
 {
@@ -137,6 +144,7 @@ fn supplement_at(s: &[u8], p: usize, key: u64) -> Reading<(u64, usize)>
 
 // C12, added to the sum of cents.
 #[tactic(auto, using(crate::proofs::Steps::c12_steps))]
+#[inline(always)]
 fn cents_into(s: &[u8], p: usize, sum: CentSum) -> Reading<(CentSum, usize)>
     ensures { result ≡ of_field (cents_on sum.0) p (p + 11) (field_at (digits 11) (rules_c12 sum.0) s.now p) }
 {
@@ -148,6 +156,7 @@ fn cents_into(s: &[u8], p: usize, sum: CentSum) -> Reading<(CentSum, usize)>
 }
 
 // C18, where C1 tells the length l.
+#[inline(always)]
 fn fitting_count_at(s: &[u8], p: usize, l: u64) -> Reading<(u64, usize)>
     ensures { result ≡ of_field numbers p (p + 2) (field_at (digits 2) (rules_c18 l) s.now p) }
 {
@@ -156,6 +165,7 @@ fn fitting_count_at(s: &[u8], p: usize, l: u64) -> Reading<(u64, usize)>
 }
 
 // C2 to C7b: the sums with the payment's account number and bank code.
+#[inline(always)]
 pub fn receiver_at(
     s: &[u8],
     p: usize,
@@ -197,6 +207,7 @@ pub fn receiver_at(
 }
 
 // C8 to C12: the sum with the payment's cents.
+#[inline(always)]
 pub fn amount_at(s: &[u8], p: usize, cents: CentSum) -> Reading<(CentSum, usize)>
     ensures { result ≡ of_read (amounts_on cents.0) (read_at (amount cents.0) s.now p) }
 {
@@ -221,6 +232,7 @@ pub fn amount_at(s: &[u8], p: usize, cents: CentSum) -> Reading<(CentSum, usize)
 
 // C13 to C16.
 #[tactic(auto, using(crate::proofs::Steps::names_steps))]
+#[inline(always)]
 pub fn names_at(s: &[u8], p: usize) -> Reading<usize>
     ensures { result ≡ of_read passings (read_at names s.now p) }
 {
@@ -244,6 +256,7 @@ pub fn names_at(s: &[u8], p: usize) -> Reading<usize>
 }
 
 // C17a to C18, where C1 tells the length l: the number of parts.
+#[inline(always)]
 pub fn part_count_at(s: &[u8], p: usize, l: u64) -> Reading<(u64, usize)>
     ensures { result ≡ of_read numbers (read_at (part_count l) s.now p) }
 {

@@ -1,33 +1,37 @@
 -- fields::fixed_at meets its contract: whole, then the same bytes.
-use Rattle.std.proofs.Common.{length, refl, sym, ◌∙◌}
-use Rattle.std.proofs.lemmas.Result.{err_from_is_err_and}
+use Rattle.std.proofs.Common.{◌+◌, length, refl, sym, ◌∙◌, arith}
+use native.Mathlib.Nat.{add-sub_cancel_left}
 use borrow.Author.Tests.{not-false, not-true}
 use Rattle.form.specs.Kind.{fixed}
 use Rattle.form.specs.Reader.{judge, not_fixed}
 use Rattle.verdict.specs.Verdicts.{number_of}
 use Rattle.fields.specs.Answers.{passings}
-use Rattle.fields.proofs.LeafLaws.{leaf_right, leaf_short, leaf_wrong, same_pointwise}
+use Rattle.fields.proofs.LeafLaws.{ends_inside, field_length, leaf_right, leaf_short, leaf_wrong}
 use Rattle.fields.proofs.fixed_at.Goals as goal
 
-pub returns-in_err-f : goal.returns-in_err-f
-returns-in_err-f c =
+pub returns-then-not-whole : goal.returns-then-not-whole
+returns-then-not-whole c =
     let a = c.args in
-    let p = err_from_is_err_and c.from_residual.result c.from_residual.ensures.1 in
-    rw (p.1, p.2, c.in_err-f.ensures.1) (leaf_short (fixed a.want.now) passings a.s.now a.p (length a.want.now) _ refl c.in_err-f.ensures.0)
+    rw c.refuse.ensures (leaf_short (fixed a.want.now) passings a.s.now a.p (length a.want.now) _ refl (sym c.whole.ensures ∙ not-true _ c.if-not-whole.true-raw))
 
-pub returns-then-ne : goal.returns-then-ne
-unfolding judge number_of
-returns-then-ne c =
+pub same_bytes-requires : goal.same_bytes-requires
+same_bytes-requires c =
     let a = c.args in
-    let f = c.in_ok-f in
-    let other = sym (same_pointwise f.f.now a.want.now) ∙ not-true _ (sym c.ne.ensures ∙ c.if-ne.true) in
-    rw c.refuse.ensures
-    (leaf_wrong (fixed a.want.now) passings a.s.now a.p (length a.want.now) _ refl f.ensures.0 not_fixed (rw (rw f.ensures.1 at other)))
+    rw add-sub_cancel_left (field_length a.s.now a.p (length a.want.now) (sym c.whole.ensures ∙ not-false _ c.if-not-whole.false-raw))
+
+pub returns-then-not-same_bytes : goal.returns-then-not-same_bytes
+unfolding judge number_of
+returns-then-not-same_bytes c =
+    let a = c.args in
+    let whole = sym c.whole.ensures ∙ not-false _ c.if-not-whole.false-raw in
+    let all = rw add-sub_cancel_left at c.same_bytes.ensures in
+    rw c.refuse-then-not-same_bytes.ensures
+        (leaf_wrong (fixed a.want.now) passings a.s.now a.p (length a.want.now) _ refl whole not_fixed (rw (← all, not-true c.same_bytes.result c.if-not-same_bytes.true-raw)))
 
 pub returns : goal.returns
 unfolding judge
 returns c =
     let a = c.args in
-    let f = c.in_ok-f in
-    let equal = sym (same_pointwise f.f.now a.want.now) ∙ not-false _ (sym c.ne.ensures ∙ c.if-ne.false) in
-    leaf_right (fixed a.want.now) passings a.s.now a.p (length a.want.now) _ refl f.ensures.0 tt (rw (rw f.ensures.1 at equal))
+    let whole = sym c.whole.ensures ∙ not-false _ c.if-not-whole.false-raw in
+    let all = rw add-sub_cancel_left at c.same_bytes.ensures in
+    leaf_right (fixed a.want.now) passings a.s.now a.p (length a.want.now) _ refl whole tt (rw (← all, not-false c.same_bytes.result c.if-not-same_bytes.false-raw))
