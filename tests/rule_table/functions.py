@@ -11,6 +11,8 @@ from .ways import ways_out
 # A goal of a way out that a proof answers, without the clause that it may be of.
 ANSWERED = re.compile(r"^pub (returns(?:-(?!clause-)[^\s-]+)*)", re.MULTILINE)
 CONSTANT = re.compile(r"^(?:pub )?const (\w+): u8 = (\d+);", re.MULTILINE)
+# A call that is no method's.
+CALL = re.compile(r"(?<![\w:.])((?:\w+::)*\w+)\(")
 
 
 class Functions:
@@ -45,9 +47,19 @@ class Functions:
         named = re.findall(r"\b[A-Z][A-Z_]+\b", self.ways(path).get(fact, ""))
         return {self.constants[name] for name in named if name in self.constants}
 
-    def hands_on(self, path: str, fact: str) -> bool:
-        """Whether the function hands on there what another one refused."""
-        return "Refused(" in self.ways(path).get(fact, "") and not self.gives(path, fact)
+    def hands_on(self, path: str, fact: str) -> set[int]:
+        """The numbers that the functions can refuse with which are called at the way out."""
+        called = (self.path_of(name, path) for name in CALL.findall(self.ways(path).get(fact, "")))
+        return set().union(*(self.refuses_with(each) for each in called if each != path))
+
+    def refuses_with(self, path: str) -> set[int]:
+        """The numbers that stand at the ways out of a function, or that it hands on there."""
+        return set().union(*(self.gives(path, fact) | self.hands_on(path, fact) for fact in self.ways(path)))
+
+    def path_of(self, called: str, caller: str) -> str:
+        """The path of the function that another one calls by this name."""
+        within = f"{caller.partition('::')[0]}::{called}"
+        return within if self.has(within) else called
 
     def ways(self, path: str) -> dict[str, str]:
         """The ways out of a function, by the facts that they are proved as."""
