@@ -1,7 +1,7 @@
 -- The line of a record, field by field: what one field more adds, and how long it is.
 -- By induction over the cells (`cell_lies`) field i lies in the file, and what is printed of it comes right behind the fields before it, with a
 -- tab between (`tabbed_more`). A loop that counts keeps `Counting`: so far it has the letter, the line's end and i fields, and with all n fields
--- that is the length of the line (`count_ends`). No field is printed wider than its cell, so the widths of all cells, 631 bytes, bound every
+-- that is the length of the line (`line_long`). No field is printed wider than its cell, so the widths of all cells, 631 bytes, bound every
 -- count (`count_short`), and none wraps.
 use Prim.Native.Nat.{ℕ, zero, suc, ◌+◌, ◌-◌, ◌≤◌, ◌<◌}
 use native.Mathlib.Nat.{add-sub_cancel_left}
@@ -105,9 +105,6 @@ pub record Counting (head : Bool) (n : ℕ) (f : List ℕ) (p m i : ℕ) : Type 
   pub inside : i ≤ n
   pub counts : m ≡ 2 + length (tabbed f p (take i (cells_of head)))
 
-pub count_start : (head : Bool) (n : ℕ) (f : List ℕ) (p : ℕ) → Counting head n f p 2 0
-count_start head n f p = record { inside = omega arith; counts = refl }
-
 module _ {head : Bool} {n : ℕ} {f : List ℕ} {p m i : ℕ} (s : Counting head n f p m i) where
   pub count_short : m ≤ 633
   count_short = omega (arith, s.counts, tabbed_short head i f p)
@@ -119,6 +116,3 @@ module _ {head : Bool} {n : ℕ} {f : List ℕ} {p m i : ℕ} (s : Counting head
       let more : length (tabbed f p (take (i + 1) (cells_of head))) ≡ length t + suc (length (printed_cell c f p))
       = ap length (tabbed_more l) ∙ length-append t (tab ∷ printed_cell c f p) in
       record { inside = omega arith; counts = omega (arith, s.counts) }
-
-  pub count_ends : n ≤ i → m ≡ length (line_at head n f p)
-  count_ends h = let e : i ≡ n = omega (arith, s.inside) in s.counts ∙ rw e (sym (line_long head n f p))

@@ -27,16 +27,11 @@ use Rattle.listing.specs.Endings.{Ending, writes, refuses, listed, written}
 use Rattle.output.specs.declared.Written.{Written}
 use Rattle.output.specs.Writing.{written_of}
 use Rattle.output.proofs.EndingLaws.{Says as EndingSays, RefusedWith, ends_refused, ends_short, ends_written}
-use Rattle.lister.specs.Printing.{AcceptedFile}
 use Rattle.lister.proofs.ListingLaws.{listing_of, listed_as}
 
 -- what `list` ensures of its result and of the output, for the file and what the output held before
 abbrev pub Says : List ℕ → List ℕ → Written → List ℕ → Type 0
 Says file old r new = EndingSays (listed (answer file)) old r new
-
--- a file that the check accepts
-pub is_accepted_lem : (file : List ℕ) {c : Checked} → c ≡ checked_of (outcome (answer file)) → c.verdict.number ≡ 0 → AcceptedFile c.count file
-is_accepted_lem file told zero = (sym (ap (λ (x : Checked). x.verdict.number) told) ∙ zero, ap (λ (x : Checked). x.count) told)
 
 -- a refusal with the verdict of the check
 abbrev RefusedAs : Answer Name Document → Type 0

@@ -7,15 +7,17 @@ use Prim.Native.Nat.{ℕ, ◌+◌, ◌≤◌, ◌<◌}
 use native.Mathlib.Omega.{arith}
 use mathlib.Core.Path.{◌≡◌, refl, sym, ap, ap₂, ◌∙◌}
 use mathlib.Core.Bool.{false}
-use mathlib.Core.List.{List}
+use mathlib.Core.List.{List, ◌++◌}
 use lib.ListN.{length, length-append}
 use Rattle.verdict.specs.Lent.{filled}
 use Rattle.listing.specs.Records.{fields_with}
 use Rattle.output.specs.Writing.{over}
-use Rattle.output.proofs.OverLaws.{over_length, over_nothing, over_first, over_next}
+use Rattle.output.proofs.OverLaws.{over_length, over_nothing, over_first}
 use Rattle.layout.specs.Steps.{parts_at}
 use Rattle.layout.proofs.StepLaws.{Passing}
-use Rattle.lister.specs.Printing.{line_at, AcceptedFile}
+use Rattle.lister.specs.declared.Pen.{Pen}
+use Rattle.lister.specs.Printing.{line_at, AcceptedFile, HasRoom, Wrote}
+use Rattle.lister.proofs.PrintLaws.{stretch, wrote_on}
 use Rattle.lister.proofs.ListingLaws.{listing_of, line_of_a, lines_to, listing_short, done_within}
 use Rattle.lister.proofs.ListingLaws.{FromRow, Standing, stand_ends, line_more}
 
@@ -49,74 +51,55 @@ module _ {f : List ℕ} {n m p row : ℕ} (s : Measuring f n m p row) where
 
 -- ---- printing
 
--- the lines of `row` payments stand in the output, from a on, behind that of A, and there is room for the others
-pub record Listing (f : List ℕ) (n : ℕ) (old : List ℕ) (a : ℕ) (out : List ℕ) (q p row : ℕ) : Type 0 where
+-- behind the line of A the pen `old` has printed the lines of `row` payments, and is `new`; there is room for the others
+pub record Listing (f : List ℕ) (n : ℕ) (old new : Pen) (p row : ℕ) : Type 0 where
   pub standing : Standing f n p row
-  pub first : a ≡ length (line_of_a f)
-  pub room : length (listing_of f) ≤ length old
-  pub long : length out ≡ length old
-  pub here : q ≡ a + length (lines_to f row)
-  pub holds : out ≡ over a (lines_to f row) old
+  pub first : old.at ≡ length (line_of_a f)
+  pub room : length (listing_of f) ≤ length old.out.now
+  pub wrote : Wrote (lines_to f row) old new
 
-module _ (n : ℕ) (f : List ℕ) (x : AcceptedFile n f) (old : List ℕ) (h : length (listing_of f) ≤ length old) where
-  -- there is room for the line of A
-  pub a_room : 0 + length (line_of_a f) ≤ length old
-  a_room = omega (arith, done_within n f x 0)
+-- there is room for the line of A
+pub a_room : (n : ℕ) (f : List ℕ) → AcceptedFile n f → (start : Pen) → start.at ≡ 0 → length (listing_of f) ≤ length start.out.now → HasRoom (line_of_a f) start
+a_room n f x start zero h = omega (arith, done_within n f x 0)
 
-  pub list_start : {p : ℕ} → Passing f (FromRow f) 0 p → {out : List ℕ} {a : ℕ} → a ≡ 0 + length (line_of_a f) → out ≡ over 0 (line_of_a f) old
-      → Listing f n out a out a p 0
-  list_start w {out} {a} e g =
-      let l : length out ≡ length old = ap length g ∙ over_length 0 (line_of_a f) old a_room in
-      record {
-        standing = record { accepted = x; passing = w };
-        first = omega arith;
-        room = omega arith;
-        long = refl;
-        here = omega arith;
-        holds = sym (over_nothing a out);
-      }
+-- the line of A is printed
+module _ (n : ℕ) (f : List ℕ) (x : AcceptedFile n f) {start old : Pen} (t : Wrote (line_of_a f) start old) (zero : start.at ≡ 0)
+    (h : length (listing_of f) ≤ length start.out.now) where
+  pub list_start : {p : ℕ} → Passing f (FromRow f) 0 p → Listing f n old old p 0
+  list_start w = record {
+    standing = record { accepted = x; passing = w };
+    first = omega (arith, t.place);
+    room = omega (arith, ap length t.out, over_length start.at (line_of_a f) start.out.now (a_room n f x start zero h));
+    wrote = record { same_reference = refl; place = omega arith; out = sym (over_nothing old.at old.out.now) };
+  }
 
-module _ {f : List ℕ} {n : ℕ} {old : List ℕ} {a : ℕ} {out : List ℕ} {q p row : ℕ} (s : Listing f n old a out q p row) where
-  module _ (h : row < n) {k : ℕ} (told : k ≡ parts_at f p) where
-    abbrev fresh : List ℕ
-    fresh = line_at false (fields_with k) f p
+  -- behind the last line the whole listing is printed
+  pub list_ends : {new : Pen} {p row : ℕ} → Listing f n old new p row → n ≤ row
+      → (new.at ≡ length (listing_of f)) × (new.out.now ≡ filled (listing_of f) start.out.now) × (new.out.ghost_name ≡ start.out.ghost_name)
+  list_ends {new} {p} {row} s e =
+      let w = stand_ends s.standing e in
+      let fits : HasRoom (line_of_a f ++ lines_to f row) start = omega (arith, ap length w) in
+      let all = wrote_on (line_of_a f) (lines_to f row) fits t s.wrote in (
+        omega (arith, all.place, ap length w),
+        all.out ∙ ap₂ (λ j bs. over j bs start.out.now) zero (sym w) ∙ over_first (listing_of f) start.out.now,
+        all.same_reference,
+      )
 
-    longer_by : length (lines_to f (row + 1)) ≡ length (lines_to f row) + length fresh
-    longer_by = ap length (line_more s.standing h told) ∙ length-append (lines_to f row) fresh
+module _ {f : List ℕ} {n : ℕ} {old new : Pen} {p row : ℕ} (s : Listing f n old new p row) (h : row < n) {k : ℕ} (told : k ≡ parts_at f p) where
+  abbrev fresh : List ℕ
+  fresh = line_at false (fields_with k) f p
 
-    pub line_room : q + length fresh ≤ length out
-    line_room = omega (arith, done_within n f s.standing.accepted (row + 1), longer_by, s.first, s.room, s.long, s.here)
+  next_fits : HasRoom (lines_to f row ++ fresh) old
+  next_fits = omega (arith, s.room, s.first, done_within n f s.standing.accepted (row + 1), ap length (line_more s.standing h told))
 
-    -- the line of the payment at p is printed, and the next payment stands at p'
-    pub list_more : {out' : List ℕ} {q' p' : ℕ} → q' ≡ q + length fresh → out' ≡ over q fresh out → Passing f (FromRow f) (row + 1) p'
-        → Listing f n old a out' q' p' (row + 1)
-    list_more {out'} g o w =
-        let r = line_room in
-        let is : out' ≡ over a (lines_to f (row + 1)) old
-        = o
-        ∙ ap₂ (λ j b. over j fresh b) s.here s.holds
-        ∙ over_next a (lines_to f row) fresh old (omega (arith, s.here, s.long))
-        ∙ ap (λ bs. over a bs old) (sym (line_more s.standing h told)) in
-        record {
-          standing = record { accepted = s.standing.accepted; passing = w };
-          first = s.first;
-          room = s.room;
-          long = ap length is ∙ over_length a (lines_to f (row + 1)) old (omega (arith, longer_by, s.here, s.long));
-          here = omega (arith, s.here, longer_by);
-          holds = is;
-        }
+  pub line_room : HasRoom fresh new
+  line_room = (stretch (lines_to f row) fresh next_fits s.wrote).0
 
-  -- behind the last line, the place is the length of the listing
-  pub list_long : n ≤ row → q ≡ length (listing_of f)
-  list_long h = omega (arith, s.here, s.first, ap length (stand_ends s.standing h), length-append (line_of_a f) (lines_to f row))
-
-  -- behind the last line, where the line of A stood in the output from the start, the whole listing stands there
-  pub list_ends : n ≤ row → (before : List ℕ) → length (listing_of f) ≤ length before → old ≡ over 0 (line_of_a f) before → out ≡ filled (listing_of f) before
-  list_ends h before r o =
-      let front = line_of_a f in
-      let w = stand_ends s.standing h in
-      s.holds
-      ∙ ap₂ (λ j b. over j (lines_to f row) b) (s.first ∙ (let z : length front ≡ 0 + length front = omega arith in z)) o
-      ∙ over_next 0 front (lines_to f row) before (omega (arith, ap length w, length-append front (lines_to f row)))
-      ∙ ap (λ bs. over 0 bs before) (sym w)
-      ∙ over_first (listing_of f) before
+  -- the line of the payment at p is printed, and the next payment stands at p'
+  pub list_more : {new' : Pen} {p' : ℕ} → Wrote fresh new new' → Passing f (FromRow f) (row + 1) p' → Listing f n old new' p' (row + 1)
+  list_more t w = record {
+    standing = record { accepted = s.standing.accepted; passing = w };
+    first = s.first;
+    room = s.room;
+    wrote = rw (line_more s.standing h told) (wrote_on (lines_to f row) fresh next_fits s.wrote t);
+  }

@@ -1,9 +1,9 @@
 -- A part of a payment: mark and text stand side by side, and one is printed behind the other.
-use Prim.Native.Nat.{ℕ, suc, ◌+◌, ◌-◌, ◌≤◌, ◌<◌}
+use Prim.Native.Nat.{ℕ, ◌+◌, ◌-◌, ◌≤◌, ◌<◌}
 use native.Mathlib.Omega.{arith}
-use mathlib.Core.Path.{◌≡◌, refl, sym, ap, ap₂, ◌∙◌}
+use mathlib.Core.Path.{◌≡◌, refl, sym, ap, ap₂, subst, ◌∙◌}
 use mathlib.Core.Bool.{false}
-use mathlib.Core.List.{List, ◌∷◌, ◌++◌}
+use mathlib.Core.List.{List, ◌∷◌, append-nil}
 use lib.ListN.{length, take, drop, length-append}
 use Rattle.form.specs.Kind.{numeral}
 use Rattle.form.proofs.BelowLaws.{below, agree}
@@ -13,25 +13,10 @@ use Rattle.listing.specs.Lines.{tab, trim}
 use Rattle.listing.specs.Records.{fields_with}
 use Rattle.layout.specs.Widths as width
 use Rattle.layout.specs.declared.Cell.{Cell as CodeCell}
-use Rattle.output.specs.Writing.{over}
 use Rattle.layout.specs.Cells.{cell_at}
-use Rattle.output.proofs.OverLaws.{over_length, over_next}
-use Rattle.lister.specs.Printing.{printed_field, PartLies, part_at}
-use Rattle.lister.proofs.PrintLaws.{bytes_are, cell_printed, cell_full}
-
--- two stretches written one behind the other are both written
-module _ (m t old : List ℕ) (at : ℕ) (r : at + length (m ++ t) ≤ length old) {mid : List ℕ} (o : mid ≡ over at m old) where
-  both : length (m ++ t) ≡ length m + length t
-  both = length-append m t
-
-  pub first_room : at + length m ≤ length old
-  first_room = omega (arith, both, r)
-
-  pub second_room : at + length m + length t ≤ length mid
-  second_room = omega (arith, both, r, ap length o, over_length at m old first_room)
-
-  pub both_over : over (at + length m) t mid ≡ over at (m ++ t) old
-  both_over = ap (over (at + length m) t) o ∙ over_next at m t old (omega (arith, both, r))
+use Rattle.lister.specs.Printing.{printed_field, PartLies, part_at, HasRoom, Wrote}
+use Rattle.lister.specs.declared.Pen.{Pen}
+use Rattle.lister.proofs.PrintLaws.{bytes_are, cell_printed, cell_full, Going, going_from, going_last}
 
 module _ (part : ℕ) (h : part < most_parts) where
   mark_width : (cell_at false (fields_with part)).width ≡ width.mark
@@ -57,12 +42,12 @@ module _ (part : ℕ) (h : part < most_parts) where
     pub part_inside : a + width.mark + width.text ≤ length f
     part_inside = omega (arith, l.1, text_width_lem, text_place, place_is)
 
-    pub mark_bytes : take (a + width.mark - a) (drop a f) ≡ printed_field false (fields_with part) f p
+    mark_bytes : take (a + width.mark - a) (drop a f) ≡ printed_field false (fields_with part) f p
     mark_bytes =
         let two : width.mark ≡ c.width = sym (ap (λ (x : CodeCell). x.width) e ∙ mark_width) in
         bytes_are a c.width f (two ∙ cell_full false (fields_with part) f p e l.2) ∙ cell_printed false (fields_with part) f p e
 
-    pub text_bytes : trim (take width.text (drop (a + width.mark) f)) ≡ printed_field false (fields_with part + 1) f p
+    text_bytes : trim (take width.text (drop (a + width.mark) f)) ≡ printed_field false (fields_with part + 1) f p
     text_bytes =
         let place : a + width.mark ≡ p + (cell_at false (fields_with part + 1)).place = omega (arith, text_place, place_is) in
         ap₂ (λ w j. trim (take w (drop j f))) (sym text_width_lem) place
@@ -74,26 +59,17 @@ module _ (part : ℕ) (h : part < most_parts) where
     words = tab ∷ printed_field false (fields_with part + 1) f p
 
     -- there is room for both
-    module _ (old : List ℕ) (at : ℕ) (r : at + length (part_at part f p) ≤ length old) where
-      pub mark_room : at + suc (length (take (a + width.mark - a) (drop a f))) ≤ length old
-      mark_room = omega (arith, ap length mark_bytes, first_room mark words old at r refl)
+    module _ (old : Pen) (r : HasRoom (part_at part f p) old) where
+      pub mark_room : HasRoom (tab ∷ take (a + width.mark - a) (drop a f)) old
+      mark_room = omega (arith, r, ap length mark_bytes, length-append mark words)
 
       -- the mark is printed
-      module _ {q : ℕ} {mid : List ℕ} (place : q ≡ at + suc (length (take (a + width.mark - a) (drop a f))))
-          (out : mid ≡ over at (tab ∷ take (a + width.mark - a) (drop a f)) old) where
-        behind : q ≡ at + length mark
-        behind = place ∙ ap (λ bs. at + suc (length bs)) mark_bytes
+      module _ {mid : Pen} (w : Wrote (tab ∷ take (a + width.mark - a) (drop a f)) old mid) where
+        marked : Going (λ (i : ℕ). words) (part_at part f p) old mid 0
+        marked = going_from mark 0 refl r (subst (λ bs. Wrote (tab ∷ bs) old mid) mark_bytes w)
 
-        marked : mid ≡ over at mark old
-        marked = out ∙ ap (λ bs. over at (tab ∷ bs) old) mark_bytes
+        pub text_room : HasRoom (tab ∷ trim (take width.text (drop (a + width.mark) f))) mid
+        text_room = omega (arith, ap length text_bytes, marked.room)
 
-        pub text_room : q + suc (length (trim (take width.text (drop (a + width.mark) f)))) ≤ length mid
-        text_room = omega (arith, ap length text_bytes, behind, second_room mark words old at r marked)
-
-        pub both_printed : {q' : ℕ} {out' : List ℕ} → q' ≡ q + suc (length (trim (take width.text (drop (a + width.mark) f))))
-            → out' ≡ over q (tab ∷ trim (take width.text (drop (a + width.mark) f))) mid
-            → (q' ≡ at + length (part_at part f p)) × (out' ≡ over at (part_at part f p) old)
-        both_printed e o = (
-          omega (arith, e, behind, ap length text_bytes, length-append mark words),
-          o ∙ ap₂ (λ bs j. over j (tab ∷ bs) mid) text_bytes behind ∙ both_over mark words old at r marked,
-        )
+        pub both_printed : {new : Pen} → Wrote (tab ∷ trim (take width.text (drop (a + width.mark) f))) mid new → Wrote (part_at part f p) old new
+        both_printed {new} t = going_last marked words (sym (append-nil words)) (subst (λ bs. Wrote (tab ∷ bs) mid new) text_bytes t)

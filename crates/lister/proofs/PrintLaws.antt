@@ -8,8 +8,8 @@ use native.Mathlib.Numerals.{add-one}
 use native.Mathlib.Omega.{arith}
 use mathlib.Core.Path.{◌≡◌, refl, sym, ap, ap₂, subst, ◌∙◌}
 use mathlib.Core.Bool.{Bool, false}
-use mathlib.Core.List.{List, [], ◌∷◌, ◌++◌, append_assoc}
-use lib.ListN.{length, take, drop, set, get_elem?, length-append, length-take, length-set}
+use mathlib.Core.List.{List, [], ◌∷◌, ◌++◌, append_assoc, append-nil}
+use lib.ListN.{length, take, drop, set, get_elem?, length-append, length-take}
 use lib.Seq.{take-take}
 use Rattle.form.specs.Kind.{width}
 use Rattle.listing.specs.Lines.{tab, line_end, behind_tabs, trim}
@@ -19,7 +19,8 @@ use Rattle.layout.specs.declared.Cell.{Cell as CodeCell}
 use Rattle.output.specs.Writing.{over, over_if_room}
 use Rattle.layout.specs.Cells.{cells_of, cell_of, cell_at}
 use Rattle.output.proofs.OverLaws.{over_room, over_length, over_nothing, over_next, over_more}
-use Rattle.lister.specs.Printing.{Lies, printed_cell, FieldLies, printed_field, numbers_at, part_at}
+use Rattle.lister.specs.declared.Pen.{Pen}
+use Rattle.lister.specs.Printing.{Lies, printed_cell, printed_field, numbers_at, part_at, HasRoom, Wrote}
 use Rattle.lister.proofs.LineLaws.{tabbed, part_is}
 
 -- ---- one field
@@ -37,9 +38,6 @@ module _ (a w : ℕ) (f : List ℕ) {n : ℕ} (e : n ≡ length (trim (take w (d
 
 -- the cell of field i, as the code has it
 module _ (head : Bool) (i : ℕ) (f : List ℕ) (p : ℕ) {c : CodeCell} (e : c ≡ cell_at head i) where
-  pub cell_inside : FieldLies head i f p → p + (c.place + c.width) ≤ length f
-  cell_inside l = subst (λ (x : CodeCell). p + (x.place + x.width) ≤ length f) (sym e) l
-
   pub cell_printed : printed_cell c f p ≡ printed_field head i f p
   cell_printed = ap (λ (x : CodeCell). printed_cell x f p) e
 
@@ -51,47 +49,87 @@ module _ (head : Bool) (i : ℕ) (f : List ℕ) (p : ℕ) {c : CodeCell} (e : c 
 pub set_over : (q b : ℕ) (old : List ℕ) → q < length old → set old q b ≡ over q (b ∷ []) old
 set_over q b old h = ap₂ (λ o j. set o j b) (sym (over_nothing q old)) (sym (add-zero q)) ∙ over_more q b [] old (omega arith)
 
--- a tab that is set, and bytes copied behind it, are both written
-pub behind_tab_lem : (t old : List ℕ) (at : ℕ) → at + suc (length t) ≤ length old → over_if_room (at + 1) t (set old at tab) ≡ over at (tab ∷ t) old
-behind_tab_lem t old at h =
-    over_room (at + 1) t (set old at tab) (omega (arith, length-set old at tab))
-    ∙ ap (over (at + 1) t) (set_over at tab old (omega arith))
-    ∙ over_next at (tab ∷ []) t old (omega arith)
+-- of two stretches the first is printed: there is room for the other, and printed behind it both stand there
+pub stretch : (t u : List ℕ) {old new : Pen} → HasRoom (t ++ u) old → Wrote t old new
+    → HasRoom u new × (new.at + length u ≡ old.at + length (t ++ u)) × (over new.at u new.out.now ≡ over old.at (t ++ u) old.out.now)
+stretch t u {old} {new} r w =
+    let both = length-append t u in
+    let fits : old.at + (length t + length u) ≤ length old.out.now = omega (arith, both, r) in
+    let long : length new.out.now ≡ length old.out.now = ap length w.out ∙ over_length old.at t old.out.now (omega arith) in (
+      omega (arith, w.place),
+      omega (arith, w.place, both),
+      ap₂ (λ j b. over j u b) w.place w.out ∙ over_next old.at t u old.out.now fits,
+    )
+
+-- and once the other is printed too, both are
+pub wrote_on : (t u : List ℕ) {old mid new : Pen} → HasRoom (t ++ u) old → Wrote t old mid → Wrote u mid new → Wrote (t ++ u) old new
+wrote_on t u r w x =
+    let s = stretch t u r w in record { same_reference = x.same_reference ∙ w.same_reference; place = x.place ∙ s.1; out = x.out ∙ s.2 }
+
+-- bytes copied behind a tab are printed with it
+pub behind_tab_lem : (t : List ℕ) {old mid : Pen} → HasRoom (tab ∷ t) old → Wrote (tab ∷ []) old mid → {out : List ℕ} → out ≡ over_if_room mid.at t mid.out.now
+    → out ≡ over old.at (tab ∷ t) old.out.now
+behind_tab_lem t {old} {mid} r w e =
+    let s = stretch (tab ∷ []) t r w in
+    e ∙ over_room mid.at t mid.out.now s.0 ∙ s.2
 
 -- ---- one stretch after another
 
--- `rest i` is what comes from field i on. All of `whole` was to be written into `old` at q; the code went on to field i, at `at`: with what comes
+-- `rest i` is what comes from field i on. All of `whole` was to be printed by the pen `old`, and the pen `new` has come to field i: with what comes
 -- from there on, the output is what it was to become
-pub record Going (rest : ℕ → List ℕ) (whole old : List ℕ) (q : ℕ) (out : List ℕ) (at i : ℕ) : Type 0 where
-  pub room : at + length (rest i) ≤ length out
-  pub long : length out ≡ length old
-  pub place : at + length (rest i) ≡ q + length whole
-  pub written : over at (rest i) out ≡ over q whole old
+pub record Going (rest : ℕ → List ℕ) (whole : List ℕ) (old new : Pen) (i : ℕ) : Type 0 where
+  pub same_reference : new.out.ghost_name ≡ old.out.ghost_name
+  pub room : HasRoom (rest i) new
+  pub place : new.at + length (rest i) ≡ old.at + length whole
+  pub written : over new.at (rest i) new.out.now ≡ over old.at whole old.out.now
 
-module _ {rest : ℕ → List ℕ} {whole old out : List ℕ} {q at i : ℕ} (g : Going rest whole old q out at i) where
-  -- where nothing more comes, all is written
-  pub going_ends : rest i ≡ [] → (at ≡ q + length whole) × (out ≡ over q whole old)
-  going_ends e =
+-- the first stretch is printed, and then field k comes
+pub going_from : {rest : ℕ → List ℕ} {whole : List ℕ} {old new : Pen} (t : List ℕ) (k : ℕ) → whole ≡ t ++ rest k → HasRoom whole old → Wrote t old new
+    → Going rest whole old new k
+going_from {rest} {whole} {old} t k m r w =
+    let s = stretch t (rest k) (subst (λ bs. HasRoom bs old) m r) w in
+    record {
+      same_reference = w.same_reference;
+      room = s.0;
+      place = s.1 ∙ ap (λ bs. old.at + length bs) (sym m);
+      written = s.2 ∙ ap (λ bs. over old.at bs old.out.now) (sym m);
+    }
+
+module _ {rest : ℕ → List ℕ} {whole : List ℕ} {old mid : Pen} {i : ℕ} (g : Going rest whole old mid i) where
+  -- where nothing more comes, all is printed
+  pub going_done : rest i ≡ [] → Wrote whole old mid
+  going_done e =
       let none : length (rest i) ≡ 0 = ap length e in
-      (omega (arith, g.place), sym (over_nothing at out) ∙ ap (λ bs. over at bs out) (sym e) ∙ g.written)
+      record {
+        same_reference = g.same_reference;
+        place = omega (arith, g.place);
+        out = sym (over_nothing mid.at mid.out.now) ∙ ap (λ bs. over mid.at bs mid.out.now) (sym e) ∙ g.written;
+      }
+
+  -- a stretch comes, and nothing more
+  pub going_last : (t : List ℕ) → rest i ≡ t ++ [] → {new : Pen} → Wrote t mid new → Wrote whole old new
+  going_last t e w =
+      let all : rest i ≡ t = e ∙ append-nil t in
+      let long : length (rest i) ≡ length t = ap length all in
+      record {
+        same_reference = w.same_reference ∙ g.same_reference;
+        place = omega (arith, w.place, g.place);
+        out = w.out ∙ ap (λ bs. over mid.at bs mid.out.now) (sym all) ∙ g.written;
+      }
 
   -- a stretch comes, and then field k
   module _ (t : List ℕ) (k : ℕ) (m : rest i ≡ t ++ rest k) where
-    longer : length (rest i) ≡ length t + length (rest k)
-    longer = ap length m ∙ length-append t (rest k)
+    pub going_room : HasRoom t mid
+    going_room = omega (arith, ap length m, length-append t (rest k), g.room)
 
-    pub going_room : at + length t ≤ length out
-    going_room = omega (arith, longer, g.room)
-
-    pub going_more : {out' : List ℕ} {at' : ℕ} → at' ≡ at + length t → out' ≡ over at t out → Going rest whole old q out' at' k
-    going_more {out'} {at'} e o =
-        let fits : at + (length t + length (rest k)) ≤ length out = omega (arith, longer, g.room) in
-        let same : length out' ≡ length out = ap length o ∙ over_length at t out (omega arith) in
+    pub going_more : {new : Pen} → Wrote t mid new → Going rest whole old new k
+    going_more w =
+        let s = stretch t (rest k) (subst (λ bs. HasRoom bs mid) m g.room) w in
         record {
-          room = omega (arith, fits);
-          long = same ∙ g.long;
-          place = omega (arith, g.place, longer);
-          written = ap₂ (λ j b. over j (rest k) b) e o ∙ over_next at t (rest k) out fits ∙ ap (λ bs. over at bs out) (sym m) ∙ g.written;
+          same_reference = w.same_reference ∙ g.same_reference;
+          room = s.0;
+          place = s.1 ∙ ap (λ bs. mid.at + length bs) (sym m) ∙ g.place;
+          written = s.2 ∙ ap (λ bs. over mid.at bs mid.out.now) (sym m) ∙ g.written;
         }
 
 -- ---- what comes of a line

@@ -5,8 +5,10 @@ use Rattle.form.specs.Kind.{every, width}
 use Rattle.diskette.specs.Answer.{answer, outcome}
 use Rattle.listing.specs.Lines.{tab, behind_tabs, line, trim}
 use Rattle.listing.specs.Records.{numbers_of_payment_line, fields_with, Cell, cut, formed}
+use Rattle.output.specs.Writing.{over}
 use Rattle.layout.specs.declared.Cell.{Cell as CodeCell}
 use Rattle.layout.specs.Cells.{letter_of, cells_of, cell_at}
+use Rattle.lister.specs.declared.Pen.{Pen}
 
 -- the line, of n fields behind its letter, of the record that begins at p
 abbrev pub line_at : Bool → ℕ → List ℕ → ℕ → List ℕ
@@ -50,3 +52,13 @@ part_at part f p = let mark = fields_with part in (tab ∷ printed_field false m
 -- the file is accepted, with n payments
 abbrev pub AcceptedFile : ℕ → List ℕ → Type 0
 AcceptedFile n f = ((outcome (answer f)).verdict.number ≡ 0) × (n ≡ (outcome (answer f)).totals.count)
+
+-- the output has room for these bytes from the pen on
+abbrev pub HasRoom : List ℕ → Pen → Type 0
+HasRoom bs pen = pen.at + length bs ≤ length pen.out.now
+
+-- these bytes are printed into the same output, and the pen stands behind them
+pub record Wrote (bs : List ℕ) (old new : Pen) : Type 0 where
+  pub same_reference : new.out.ghost_name ≡ old.out.ghost_name
+  pub place : new.at ≡ old.at + length bs
+  pub out : new.out.now ≡ over old.at bs old.out.now

@@ -1,16 +1,16 @@
 // Listing: the file is checked, then the room in the output, and only then is a byte written.
 #![tactic(auto)]
 
-ghost use Rattle.std.specs.Prelude.{◌≡◌, suc, ◌+◌, ◌≤◌, ◌<◌, true, false, ◌∷◌, length, take, drop, leb};
+ghost use Rattle.std.specs.Prelude.{◌≡◌, ◌+◌, ◌≤◌, ◌<◌, true, false, [], ◌∷◌, length, take, drop, leb};
 ghost use Rattle.verdict.specs.Lent.{filled};
 ghost use Rattle.document.specs.Marks.{most_parts};
 ghost use Rattle.diskette.specs.Answer.{answer};
 ghost use Rattle.listing.specs.Lines.{tab, trim};
 ghost use Rattle.listing.specs.Records.{fields_of_header_line, fields_with};
 ghost use Rattle.listing.specs.Endings.{listed, within, written};
-ghost use Rattle.output.specs.Writing.{over, written_of};
+ghost use Rattle.output.specs.Writing.{written_of};
 ghost use Rattle.layout.specs.Cells.{cell_at};
-ghost use Rattle.lister.specs.Printing.{line_at, Lies, Formed, FieldLies, printed_field, NumbersLie, numbers_at, PartLies, part_at, AcceptedFile};
+ghost use Rattle.lister.specs.Printing.{line_at, Lies, Formed, FieldLies, printed_field, NumbersLie, numbers_at, PartLies, part_at, AcceptedFile, HasRoom, Wrote};
 
 use fields::refusals;
 use layout::{length, line, width};
@@ -41,105 +41,109 @@ fn line_length(head: bool, n: usize, s: &[u8], p: usize) -> usize
     length
 }
 
-// Prints a tab and the bytes of t into the output from `at` on, and tells the place behind them.
-fn print_behind_tab(t: &[u8], out: &mut [u8], at: usize) -> usize
-    requires { at + suc (length t.now) ≤ length out.old }
-    ensures place { result ≡ at + suc (length t.now) }
-    ensures out { out.new ≡ over at (tab ∷ t.now) out.old }
-{
-    out[at] = line::TAB;
-    output::copy(out, at + 1, t);
-    at + 1 + t.len()
+// Where in a lent output the next byte is printed.
+#[derive(Drop)]
+struct Pen<'a> {
+    out: &'a mut [u8],
+    at: usize,
 }
 
-// Prints a tab and the field of w bytes at a, without its trailing blanks, into the output from `at` on, and tells the place behind it.
-fn print_trimmed(s: &[u8], a: usize, w: usize, out: &mut [u8], at: usize) -> usize
-    requires { (a + w ≤ length s.now) × (at + suc (length (trim (take w (drop a s.now)))) ≤ length out.old) }
-    ensures place { result ≡ at + suc (length (trim (take w (drop a s.now)))) }
-    ensures out { out.new ≡ over at (tab ∷ trim (take w (drop a s.now))) out.old }
-{
-    let n = trimmed(&s[a..a + w]);
-    print_behind_tab(&s[a..a + n], out, at)
-}
-
-// Prints a tab and field i of the record at p, without its trailing blanks, and tells the place behind it.
-fn print_field(head: bool, i: usize, s: &[u8], p: usize, out: &mut [u8], at: usize) -> usize
-    requires { FieldLies head i s.now p × (at + suc (length (printed_field head i s.now p)) ≤ length out.old) }
-    ensures place { result ≡ at + suc (length (printed_field head i s.now p)) }
-    ensures out { out.new ≡ over at (tab ∷ printed_field head i s.now p) out.old }
-{
-    let c = layout::cell_at(head, i);
-    print_trimmed(s, p + c.place, c.width, out, at)
-}
-
-// Prints a tab and field i of the payment at p, and tells the place behind it. The field is a number and stands there in full width, so that no
-// blank is looked for.
-fn print_number(i: usize, s: &[u8], p: usize, out: &mut [u8], at: usize) -> usize
-    requires { FieldLies false i s.now p × (length (printed_field false i s.now p) ≡ (cell_at false i).width) × (at + suc (length (printed_field false i s.now p)) ≤ length out.old) }
-    ensures place { result ≡ at + suc (length (printed_field false i s.now p)) }
-    ensures out { out.new ≡ over at (tab ∷ printed_field false i s.now p) out.old }
-{
-    let c = layout::cell_at(false, i);
-    let a = p + c.place;
-    print_behind_tab(&s[a..a + c.width], out, at)
-}
-
-// Prints the line of A from the start of the output on, and tells the place behind it.
-fn print_header(s: &[u8], out: &mut [u8]) -> usize
-    requires { Lies true fields_of_header_line s.now 0 × (0 + length (line_at true fields_of_header_line s.now 0) ≤ length out.old) }
-    ensures place { result ≡ 0 + length (line_at true fields_of_header_line s.now 0) }
-    ensures out { out.new ≡ over 0 (line_at true fields_of_header_line s.now 0) out.old }
-{
-    out[0] = output::letter(true);
-    let mut at = 1;
-    for i in 0..line::FIELDS_OF_A {
-        at = print_field(true, i, s, 0, out, at);
+impl Pen<'_> {
+    // Prints a byte.
+    fn put(&mut self, b: u8)
+        requires { HasRoom (b ∷ []) self.old }
+        ensures { Wrote (b ∷ []) self.old self.new }
+    {
+        self.out[self.at] = b;
+        self.at += 1;
     }
-    out[at] = line::END;
-    at + 1
-}
 
-// Prints the numbers that the line of a payment begins with, `line::NUMBERS_OF_C` of them, and tells the place behind them.
-fn print_numbers(s: &[u8], p: usize, out: &mut [u8], at: usize) -> usize
-    requires { NumbersLie s.now p × (at + length (numbers_at s.now p) ≤ length out.old) }
-    ensures place { result ≡ at + length (numbers_at s.now p) }
-    ensures out { out.new ≡ over at (numbers_at s.now p) out.old }
-{
-    let mut q = at;
-    for i in 0..line::NUMBERS_OF_C {
-        q = print_number(i, s, p, out, q);
+    // Prints a tab and the bytes of t.
+    fn put_behind_tab(&mut self, t: &[u8])
+        requires { HasRoom (tab ∷ t.now) self.old }
+        ensures { Wrote (tab ∷ t.now) self.old self.new }
+    {
+        self.put(line::TAB);
+        output::copy(self.out, self.at, t);
+        self.at += t.len();
     }
-    q
-}
 
-// Prints mark and text of a part of the payment at p, each behind a tab, and tells the place behind them. All parts have the same widths.
-fn print_part(part: usize, s: &[u8], p: usize, out: &mut [u8], at: usize) -> usize
-    requires { (part < most_parts) × PartLies part s.now p × (at + length (part_at part s.now p) ≤ length out.old) }
-    ensures place { result ≡ at + length (part_at part s.now p) }
-    ensures out { out.new ≡ over at (part_at part s.now p) out.old }
-{
-    let c = layout::cell_at(false, line::FIELDS_OF_C + 2 * part);
-    let a = p + c.place;
-    let q = print_behind_tab(&s[a..a + width::MARK], out, at);
-    print_trimmed(s, a + width::MARK, width::TEXT, out, q)
-}
+    // Prints a tab and the field of w bytes at a, without its trailing blanks.
+    fn put_trimmed(&mut self, s: &[u8], a: usize, w: usize)
+        requires { (a + w ≤ length s.now) × HasRoom (tab ∷ trim (take w (drop a s.now))) self.old }
+        ensures { Wrote (tab ∷ trim (take w (drop a s.now))) self.old self.new }
+    {
+        let n = trimmed(&s[a..a + w]);
+        self.put_behind_tab(&s[a..a + n]);
+    }
 
-// Prints the line of the payment at p, of k parts, into the output from q on, and tells the place behind it.
-fn print_payment(k: usize, s: &[u8], p: usize, out: &mut [u8], q: usize) -> usize
-    requires { Lies false (fields_with k) s.now p × Formed false (fields_with k) s.now p × (q + length (line_at false (fields_with k) s.now p) ≤ length out.old) }
-    ensures place { result ≡ q + length (line_at false (fields_with k) s.now p) }
-    ensures out { out.new ≡ over q (line_at false (fields_with k) s.now p) out.old }
-{
-    out[q] = output::letter(false);
-    let mut at = print_numbers(s, p, out, q + 1);
-    for i in line::NUMBERS_OF_C..line::FIELDS_OF_C {
-        at = print_field(false, i, s, p, out, at);
+    // Prints a tab and field i of the record at p, without its trailing blanks.
+    fn put_field(&mut self, head: bool, i: usize, s: &[u8], p: usize)
+        requires { FieldLies head i s.now p × HasRoom (tab ∷ printed_field head i s.now p) self.old }
+        ensures { Wrote (tab ∷ printed_field head i s.now p) self.old self.new }
+    {
+        let c = layout::cell_at(head, i);
+        self.put_trimmed(s, p + c.place, c.width);
     }
-    for part in 0..k {
-        at = print_part(part, s, p, out, at);
+
+    // Prints a tab and field i of the payment at p. The field is a number and stands there in full width, so that no blank is looked for.
+    fn put_number(&mut self, i: usize, s: &[u8], p: usize)
+        requires { FieldLies false i s.now p × (length (printed_field false i s.now p) ≡ (cell_at false i).width) × HasRoom (tab ∷ printed_field false i s.now p) self.old }
+        ensures { Wrote (tab ∷ printed_field false i s.now p) self.old self.new }
+    {
+        let c = layout::cell_at(false, i);
+        let a = p + c.place;
+        self.put_behind_tab(&s[a..a + c.width]);
     }
-    out[at] = line::END;
-    at + 1
+
+    // Prints the line of A.
+    fn put_header(&mut self, s: &[u8])
+        requires { Lies true fields_of_header_line s.now 0 × HasRoom (line_at true fields_of_header_line s.now 0) self.old }
+        ensures { Wrote (line_at true fields_of_header_line s.now 0) self.old self.new }
+    {
+        self.put(output::letter(true));
+        for i in 0..line::FIELDS_OF_A {
+            self.put_field(true, i, s, 0);
+        }
+        self.put(line::END);
+    }
+
+    // Prints the numbers that the line of a payment begins with, `line::NUMBERS_OF_C` of them.
+    fn put_numbers(&mut self, s: &[u8], p: usize)
+        requires { NumbersLie s.now p × HasRoom (numbers_at s.now p) self.old }
+        ensures { Wrote (numbers_at s.now p) self.old self.new }
+    {
+        for i in 0..line::NUMBERS_OF_C {
+            self.put_number(i, s, p);
+        }
+    }
+
+    // Prints mark and text of a part of the payment at p, each behind a tab. All parts have the same widths.
+    fn put_part(&mut self, part: usize, s: &[u8], p: usize)
+        requires { (part < most_parts) × PartLies part s.now p × HasRoom (part_at part s.now p) self.old }
+        ensures { Wrote (part_at part s.now p) self.old self.new }
+    {
+        let c = layout::cell_at(false, line::FIELDS_OF_C + 2 * part);
+        let a = p + c.place;
+        self.put_behind_tab(&s[a..a + width::MARK]);
+        self.put_trimmed(s, a + width::MARK, width::TEXT);
+    }
+
+    // Prints the line of the payment at p, of k parts.
+    fn put_payment(&mut self, k: usize, s: &[u8], p: usize)
+        requires { Lies false (fields_with k) s.now p × Formed false (fields_with k) s.now p × HasRoom (line_at false (fields_with k) s.now p) self.old }
+        ensures { Wrote (line_at false (fields_with k) s.now p) self.old self.new }
+    {
+        self.put(output::letter(false));
+        self.put_numbers(s, p);
+        for i in line::NUMBERS_OF_C..line::FIELDS_OF_C {
+            self.put_field(false, i, s, p);
+        }
+        for part in 0..k {
+            self.put_part(part, s, p);
+        }
+        self.put(line::END);
+    }
 }
 
 // The length of the listing of an accepted file of n payments.
@@ -175,14 +179,15 @@ fn print_listing(s: &[u8], n: usize, out: &mut [u8]) -> usize
     ensures length { result ≡ length (written (listed (answer s.now))) }
     ensures out { out.new ≡ filled (written (listed (answer s.now))) out.old }
 {
-    let mut q = print_header(s, out);
+    let mut pen = Pen { out, at: 0 };
+    pen.put_header(s);
     let mut p = length::A;
     for _row in 0..n {
         let k = parts::count_at(s, p);
-        q = print_payment(k, s, p, out, q);
+        pen.put_payment(k, s, p);
         p += layout::bytes_of(k);
     }
-    q
+    pen.at
 }
 
 // Lists a file: one line for A, one for each payment. What a refused call is lent it leaves as it was.

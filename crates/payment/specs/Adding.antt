@@ -1,11 +1,8 @@
 -- What reading a payment answers: the three sums, each with its field of the payment.
-use Rattle.std.specs.Prelude.{◌+◌}
+use Rattle.std.specs.Prelude.{ℕ, ◌+◌}
 use Rattle.document.specs.Values.{Payment}
-use Rattle.fields.specs.declared.Refusal.{Refusal}
-use Rattle.fields.specs.Answers.{refusal_of, Telling}
+use Rattle.fields.specs.Answers.{Telling}
 use Rattle.sums.specs.declared.Sums.{Sums}
-use Rattle.payment.specs.declared.PaymentRead.{PaymentRead}
-use Rattle.payment.specs.declared.PaymentRead.TheVariants as payments
 
 abbrev pub with_payment : Sums → Payment → Sums
 with_payment t p =
@@ -15,9 +12,6 @@ with_payment t p =
       cents = record { 0 = t.cents.0 + p.cents };
     }
 
-abbrev pub payments_on : Sums → Telling Payment PaymentRead
-payments_on t = record { gives = λ p q. payments.Is (with_payment t p) q; refuses = payments.Refused }
-
-abbrev pub payment_why : PaymentRead → Refusal
-payment_why (payments.Is t q) = refusal_of 0 0
-payment_why (payments.Refused r) = r
+-- what is kept of a payment, after payments that come to t: the sums with it
+abbrev pub payments_on : Sums → Telling Payment (Sums × ℕ)
+payments_on t p q = (with_payment t p, q)

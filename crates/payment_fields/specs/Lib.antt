@@ -1,2 +1,3 @@
-pub mod Summed
+pub mod Ruled
 pub mod Stretches
+pub mod Summed

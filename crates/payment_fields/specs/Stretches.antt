@@ -5,12 +5,10 @@ use Rattle.form.specs.Form.{Form, ret, get, any, ◌>>=◌, ◌>>◌}
 use Rattle.document.specs.Signs.{ascii, zeros}
 use Rattle.document.specs.Values.{Payment, Part, Totals}
 use Rattle.diskette.specs.Fields.{Name, C2, C3, C4, C5, C6, C7a, C7b, C8, C9, C10, C11, C12, C13, C14a, C14b, C15, C16, C17a, C17b, C18, must, text27, rules_c4, rules_c5, rules_c6, rules_c7a, rules_c7b, rules_c10, rules_c11, rules_c12, rules_of_names, rules_c18, parts, payment}
-use Rattle.fields.specs.declared.Refusal.{Refusal}
-use Rattle.fields.specs.Answers.{refusal_of, Telling}
-use Rattle.payment_fields.specs.declared.CentsRead.{CentsRead}
-use Rattle.payment_fields.specs.declared.CentsRead.TheVariants as cents
-use Rattle.payment_fields.specs.declared.ReceiverRead.{ReceiverRead}
-use Rattle.payment_fields.specs.declared.ReceiverRead.TheVariants as receivers
+use Rattle.fields.specs.Answers.{Telling}
+use Rattle.sums.specs.declared.AccountSum.{AccountSum}
+use Rattle.sums.specs.declared.BankCodeSum.{BankCodeSum}
+use Rattle.sums.specs.declared.CentSum.{CentSum}
 
 -- ---- C2 to C7b
 
@@ -41,16 +39,8 @@ receiver kind accounts bank_codes = do
   })
 
 -- of C2 to C7b the code keeps the two sums, of account numbers and of bank codes
-abbrev pub receivers_on : ℕ → ℕ → Telling Receiver ReceiverRead
-receivers_on accounts bank_codes =
-    record {
-      gives = λ r q. receivers.Is (record { 0 = accounts + r.account }) (record { 0 = bank_codes + r.bank_code }) q;
-      refuses = receivers.Refused;
-    }
-
-abbrev pub receiver_why : ReceiverRead → Refusal
-receiver_why (receivers.Is a b q) = refusal_of 0 0
-receiver_why (receivers.Refused r) = r
+abbrev pub receivers_on : ℕ → ℕ → Telling Receiver (AccountSum × BankCodeSum × ℕ)
+receivers_on accounts bank_codes r q = (record { 0 = accounts + r.account }, record { 0 = bank_codes + r.bank_code }, q)
 
 -- ---- C8 to C12
 
@@ -69,8 +59,8 @@ amount sum = do
   ret (record { sender_bank = sender_bank; sender_account = sender_account; cents = cents })
 
 -- of C8 to C12 the code keeps the sum of cents
-abbrev pub amounts_on : ℕ → Telling Amount CentsRead
-amounts_on sum = record { gives = λ a q. cents.Is (record { 0 = sum + a.cents }) q; refuses = cents.Refused }
+abbrev pub amounts_on : ℕ → Telling Amount (CentSum × ℕ)
+amounts_on sum a q = (record { 0 = sum + a.cents }, q)
 
 -- ---- C13 to C16: nothing is kept of the texts
 

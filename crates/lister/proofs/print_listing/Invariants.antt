@@ -3,4 +3,4 @@ use Rattle.lister.proofs.LoopLaws.{Listing}
 use Rattle.lister.proofs.print_listing.Given as goal
 
 abbrev pub invariant-loop-row : goal.invariant-loop-row
-invariant-loop-row l = Listing l.s l.n l.initial.out l.initial.q l.out l.q l.p l._row
+invariant-loop-row l = Listing l.s l.n l.initial.pen l.pen l.p l._row

@@ -1,26 +1,8 @@
--- payment_fields::key_at meets its contract: its bytes, then the keys.
-use mathlib.Core.Path.{◌∙◌, sym}
-use borrow.Author.Tests.{not-false, not-true}
-use Rattle.form.specs.Kind.{digits}
-use Rattle.diskette.specs.Fields.{rules_c7a}
-use Rattle.fields.specs.Answers.{letters_of, numbers}
-use Rattle.fields.proofs.AnswerLaws.{number_is, numbers_told}
-use Rattle.fields.proofs.LeafLaws.{field_broken, field_fails, field_holds}
-use Rattle.fields.proofs.WalkLaws.{fails}
+-- payment_fields::key_at meets its contract: its bytes, then the keys of this kind of file.
+use Rattle.std.proofs.Common.{rules}
+use Rattle.document.specs.Rules.{key_ok}
+use Rattle.fields.specs.Answers.{letters_of}
 use Rattle.payment_fields.proofs.key_at.Goals as goal
 
-pub returns-in_default : goal.returns-in_default
-returns-in_default c =
-    let a = c.args in
-    field_fails (digits 2) numbers (rules_c7a (letters_of a.kind)) a.s.now a.p _ (fails numbers_told _ _ _ c.number_at-a.ensures c.in_default.is c.why.ensures)
-
-pub returns-then-not-key_ok : goal.returns-then-not-key_ok
-returns-then-not-key_ok c =
-    let a = c.args in
-    rw c.refuse.ensures (field_broken (digits 2) numbers (rules_c7a (letters_of a.kind)) a.s.now a.p _ (number_is _ _ _ c.number_at-a.ensures c.in-Is.is).0 (rw (sym c.key_ok.ensures ∙ not-true _ c.if-not-key_ok.true-raw)))
-
 pub returns : goal.returns
-returns c =
-    let a = c.args in
-    let n = number_is _ _ _ c.number_at-a.ensures c.in-Is.is in
-    rw (n.1) (field_holds (digits 2) numbers (rules_c7a (letters_of a.kind)) a.s.now a.p _ n.0 (rw (sym c.key_ok.ensures ∙ not-false _ c.if-not-key_ok.false-raw)))
+returns c = c.tested_at.ensures (key_ok (letters_of c.args.kind)) (λ v b h. search rules)

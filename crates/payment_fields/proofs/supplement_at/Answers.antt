@@ -1,26 +1,7 @@
 -- payment_fields::supplement_at meets its contract: its bytes, then the supplements of the key.
-use mathlib.Core.Path.{◌∙◌, sym}
-use borrow.Author.Tests.{not-false, not-true}
-use Rattle.form.specs.Kind.{digits}
-use Rattle.diskette.specs.Fields.{rules_c7b}
-use Rattle.fields.specs.Answers.{numbers}
-use Rattle.fields.proofs.AnswerLaws.{number_is, numbers_told}
-use Rattle.fields.proofs.LeafLaws.{field_broken, field_fails, field_holds}
-use Rattle.fields.proofs.WalkLaws.{fails}
+use Rattle.std.proofs.Common.{rules}
+use Rattle.document.specs.Rules.{supplement_ok}
 use Rattle.payment_fields.proofs.supplement_at.Goals as goal
 
-pub returns-in_default : goal.returns-in_default
-returns-in_default c =
-    let a = c.args in
-    field_fails (digits 3) numbers (rules_c7b a.key) a.s.now a.p _ (fails numbers_told _ _ _ c.number_at-c7b.ensures c.in_default.is c.why.ensures)
-
-pub returns-then-not-supplement_ok : goal.returns-then-not-supplement_ok
-returns-then-not-supplement_ok c =
-    let a = c.args in
-    rw c.refuse.ensures (field_broken (digits 3) numbers (rules_c7b a.key) a.s.now a.p _ (number_is _ _ _ c.number_at-c7b.ensures c.in-Is.is).0 (rw (sym c.supplement_ok.ensures ∙ not-true _ c.if-not-supplement_ok.true-raw)))
-
 pub returns : goal.returns
-returns c =
-    let a = c.args in
-    let n = number_is _ _ _ c.number_at-c7b.ensures c.in-Is.is in
-    rw (n.1) (field_holds (digits 3) numbers (rules_c7b a.key) a.s.now a.p _ n.0 (rw (sym c.supplement_ok.ensures ∙ not-false _ c.if-not-supplement_ok.false-raw)))
+returns c = c.tested_at.ensures (supplement_ok c.args.key) (λ v b h. search rules)

@@ -1,5 +1,0 @@
--- payment_fields::BankCodesRead::why meets its contract: the answer is taken apart as its definition does.
-use Rattle.payment_fields.proofs.BankCodesRead.why.Goals as goal
-
-pub returns-in-Is : goal.returns-in-Is
-returns-in-Is c = cc
