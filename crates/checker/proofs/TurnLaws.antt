@@ -1,7 +1,7 @@
 -- One turn of the loop over payments, in the terms of the code: how it begins, how it goes on, and how it ends.
 use Prim.Native.Nat.{ℕ, suc, ◌+◌, ◌-◌, ◌≤◌, ◌<◌}
 use native.Mathlib.Omega.{arith}
-use mathlib.Core.Path.{◌≡◌, refl, sym, ap, ◌∙◌}
+use mathlib.Core.Path.{◌≡◌, refl, sym, ap, ◌∙◌, subst}
 use Rattle.std.specs.Prelude.{Ok, Err}
 use mathlib.Core.List.{List}
 use Rattle.form.specs.Kind.{digits}
@@ -42,9 +42,7 @@ pub turn_first : (f : List ℕ) (begin : ℕ) {h : Header} {q : ℕ} → ◌≡�
     → Turn f begin h.kind 0 (sums_of no_totals) q
 turn_first f begin {h} {q} told =
     let x = reads headers (read_at header f begin) told refl in
-    let k = ap (λ (y : Header × ℕ). y.0.kind) x.given in
-    let e = ap (λ (y : Header × ℕ). y.1) x.given in
-    rw (k, e) (begun x.value x.place x.done)
+    subst (λ (y : Header × ℕ). Turn f begin y.0.kind 0 (sums_of no_totals) y.1) (sym x.given) (begun x.value x.place x.done)
   where
     begun : (v : values.Header) (q : ℕ) → read_at header f begin ≡ done v q → Turn f begin (kind_of v.file_kind) 0 (sums_of no_totals) q
     begun v q e =
@@ -88,8 +86,7 @@ module _ {f : List ℕ} {begin : ℕ} {kind : FileKind} {count : ℕ} {sums : Su
           → Turn f begin kind (count + 1) new next
       turn_more {new} {next} told =
           let x = reads (payments_on sums) (read_at (payment (letters_of kind) (totals_of count sums) l) f q) told refl in
-          let s = ap (λ (y : Sums × ℕ). y.0) x.given in
-          let e = ap (λ (y : Sums × ℕ). y.1) x.given in
           let w = past_part (payment (letters_of kind) (totals_of count sums) l) (behind_payment (letters_of kind) (totals_of count sums) (most_payments - (count + 1))) comes x.done in
           let h = one_more in
-          record { most = omega arith; rest = rw (s, e) (payment_more (letters_of kind) (totals_of count sums) (most_payments - (count + 1)) x.value w) }
+          subst (λ (y : Sums × ℕ). Turn f begin kind (count + 1) y.0 y.1) (sym x.given)
+          (record { most = omega arith; rest = payment_more (letters_of kind) (totals_of count sums) (most_payments - (count + 1)) x.value w })
