@@ -27,10 +27,13 @@ use Rattle.dates.specs.Dates.{executions}
 
 -- ---- the day of creation
 
-module _ (f : List ℕ) (p : ℕ) {v q : ℕ} (told : ◌≡◌ {A = Reading (ℕ × ℕ)} (Ok (v, q)) (of_field numbers p (p + 6) (look_at (digits 6) f p))) where
+module _ (f : List ℕ) (p : ℕ) {v q : ℕ}
+    (told : ◌≡◌ {A = Reading (ℕ × ℕ)} (Ok (v, q)) (of_field numbers p (p + 6) (look_at (digits 6) f p))) where
   -- the day that the number read names
   pub names_made : {d : Day} → d ≡ day_from (of_ddmmyy (v % 10 ^ 6)) → d ≡ day_from (of_ddmmyy v)
-  names_made named = named ∙ ap (λ (n : ℕ). day_from (of_ddmmyy n)) (mod-eq_of_lt (look_digits 6 f p v (number_is p (p + 6) (look_at (digits 6) f p) told refl).0))
+  names_made named =
+      let content = (number_is p (p + 6) (look_at (digits 6) f p) told refl).0 in
+      named ∙ ap (λ (n : ℕ). day_from (of_ddmmyy n)) (mod-eq_of_lt (look_digits 6 f p v content))
 
 -- ---- the day of execution
 
@@ -58,7 +61,8 @@ module _ (made : document.Day) (f : List ℕ) (p : ℕ) {x : Option ℕ} {q : �
       (s.content ∙ ap has (sym (ap (λ (y : Option ℕ × ℕ). read_as y.0) s.given ∙ there_back s.value)), ap (λ (y : Option ℕ × ℕ). y.1) s.given)
 
   -- blanks
-  pub undated : x ≡ None → ◌≡◌ {A = Reading (Execution × ℕ)} (Ok (Absent, q)) (of_field executions p (p + 8) (field_at (maybe 8) (rules_a11b made) f p))
+  pub undated : x ≡ None
+      → ◌≡◌ {A = Reading (Execution × ℕ)} (Ok (Absent, q)) (of_field executions p (p + 8) (field_at (maybe 8) (rules_a11b made) f p))
   undated e = rw maybe_is.1 (field_holds (maybe 8) executions (rules_a11b made) f p (p + 8) (rw e at maybe_is.0) refl)
 
   -- eight digits, and the case that their day is in
@@ -73,7 +77,9 @@ module _ (made : document.Day) (f : List ℕ) (p : ℕ) {x : Option ℕ} {q : �
     by too_early o = field_broken (maybe 8) executions (rules_a11b made) f p (p + 8) content o
     by too_late o = field_broken (maybe 8) executions (rules_a11b made) f p (p + 8) content o
 
-    pub dated : {k : DateCase} → k ≡ case_from (date_case made (day_of d)) → comes_to k d p q ≡ of_field executions p (p + 8) (field_at (maybe 8) (rules_a11b made) f p)
+    pub dated : {k : DateCase} → k ≡ case_from (date_case made (day_of d))
+        → comes_to k d p q ≡ of_field executions p (p + 8) (field_at (maybe 8) (rules_a11b made) f p)
     dated {k} told_case =
-        let day : d ≡ day_from (of_ddmmyyyy v) = named ∙ ap (λ (n : ℕ). day_from (of_ddmmyyyy n)) (mod-eq_of_lt (look_maybe 8 f p v content)) in
+        let whole = mod-eq_of_lt (look_maybe 8 f p v content) in
+        let day : d ≡ day_from (of_ddmmyyyy v) = named ∙ ap (λ (n : ℕ). day_from (of_ddmmyyyy n)) whole in
         rw (told_case, day, maybe_is.1) (by (date_case made (of_ddmmyyyy v)) (date_judged made (of_ddmmyyyy v) (math.some v)))

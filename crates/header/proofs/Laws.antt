@@ -72,5 +72,6 @@ header_legal f p q v e =
     subst LegalHeader (sym d.2 ∙ r.1) d.1
 
 -- the kind that the code keeps of a header that was read has the letters of its A3
-pub header_letters : (f : List ℕ) (p q : ℕ) (v : values.Header) → read_at header f p ≡ done v q → letters_of (kind_of v.file_kind) ≡ v.file_kind
+pub header_letters : (f : List ℕ) (p q : ℕ) (v : values.Header) → read_at header f p ≡ done v q
+    → letters_of (kind_of v.file_kind) ≡ v.file_kind
 header_letters f p q v e = letters_among v.file_kind (header_legal f p q v e).A3

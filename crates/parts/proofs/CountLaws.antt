@@ -16,7 +16,8 @@ count_missing f p e =
     rw late
 
 -- P: what is told of the code's answer where a number was read
-pub count_told : {n : ℕ} (P : ℕ × ℕ → Type 0) (p q : ℕ) (l : Look ℕ) → MatchResult (of_field numbers p q l) P (λ r. n ≡ 0) → ((v : ℕ) → P (v, q) → n ≡ v) → n ≡ or_nothing l
+pub count_told : {n : ℕ} (P : ℕ × ℕ → Type 0) (p q : ℕ) (l : Look ℕ) → MatchResult (of_field numbers p q l) P (λ r. n ≡ 0)
+    → ((v : ℕ) → P (v, q) → n ≡ v) → n ≡ or_nothing l
 unfolding of_field or_nothing
 count_told P p q (has v) h k = k v h
 count_told P p q (lacks z) h k = h

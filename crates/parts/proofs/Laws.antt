@@ -3,9 +3,8 @@
 -- and have the same bytes (`part_look`). So what is read in the part is what would be read in the file, with the place that it has there
 -- (`mark_refused`, `mark_passed`, `words_refused`, `words_passed`). The blanks are 11 behind part 2, 12 behind parts 6, 10 and 14, none behind
 -- another with a part to come, and always some behind the last (`eleven`, `twelve`, `none_between`, `some_behind`).
-use Rattle.std.proofs.Common.{◌≡◌, ℕ, zero, suc, ◌+◌, ◌-◌, ◌*◌, ◌%◌, ◌≤◌, Bool, true, false, cond, ◌&&◌, ◌||◌, leb, eqb, Ok, Err, List, [], ◌∷◌, length, take, drop, refl, sym, ap, ◌∙◌, add-zero, arith, length-take, length-drop, drop-drop, take-take, eqb→eq, leb-true, ne_eqb}
+use Rattle.std.proofs.Common.{◌≡◌, ℕ, zero, suc, ◌+◌, ◌-◌, ◌*◌, ◌%◌, ◌≤◌, Bool, true, false, cond, ◌||◌, leb, eqb, Ok, Err, List, [], ◌∷◌, length, take, drop, refl, sym, ap, ◌∙◌, add-zero, arith, length-take, length-drop, drop-drop, take-take, eqb→eq, leb-true, ne_eqb}
 use mathlib.Core.Logic.{inl, inr}
-use mathlib.Core.Bool.{or-false}
 use lib.ListN.{length-replicate}
 use Rattle.form.specs.Kind.{Kind, fixed, digits, width, blanks}
 use Rattle.form.specs.Form.{Rule}
@@ -13,7 +12,6 @@ use Rattle.form.specs.Reader.{Look, has}
 use Rattle.form.specs.Place.{look_at, field_at, read_at}
 use Rattle.form.proofs.BoolLaws.{T_of, or_cases}
 use Rattle.form.proofs.PlaceLaws.{field_inside, look_inside}
-use Rattle.document.specs.Marks.{mark_ok}
 use Rattle.diskette.specs.Fields.{text27, closing_blanks}
 use Rattle.diskette.specs.Writing.{to_section_end, to_next_part}
 use Rattle.fields.specs.declared.Refusal.{Refusal}
@@ -32,7 +30,8 @@ take_part w (suc q) (suc n) [] h = refl
 take_part w (suc q) (suc n) (x ∷ xs) h = take_part w q n xs (omega arith)
 
 -- a field inside a part of 29 bytes, or of those that the file still has
-pub part_look : (κ : Kind) (f : List ℕ) (p q : ℕ) → q + width κ ≤ 29 → 1 ≤ q + width κ → look_at κ (take 29 (drop p f)) q ≡ look_at κ f (p + q)
+pub part_look : (κ : Kind) (f : List ℕ) (p q : ℕ) → q + width κ ≤ 29 → 1 ≤ q + width κ
+    → look_at κ (take 29 (drop p f)) q ≡ look_at κ f (p + q)
 unfolding look_at
 part_look κ f p q h j =
     let part = length-take 29 (drop p f) in
@@ -44,10 +43,12 @@ part_look κ f p q h j =
     )
 
 -- a field that is refused, also where it is looked for in the file, at q
-refused_there : {X T : Type 0} (t : Telling X T) {a : Reading T} (p n : ℕ) {l k : Look X} (q m : ℕ) → l ≡ k → a ≡ of_field t p n l → {r : Refusal} → a ≡ Err r
-    → of_field t q m k ≡ Err (refusal_of r.number q)
+refused_there : {X T : Type 0} (t : Telling X T) {a : Reading T} (p n : ℕ) {l k : Look X} (q m : ℕ) → l ≡ k → a ≡ of_field t p n l
+    → {r : Refusal} → a ≡ Err r → of_field t q m k ≡ Err (refusal_of r.number q)
 unfolding of_field
-refused_there t p n {l} q m same told given = let x = fails t p n l told given in rw (← same, x.lack) (ap (λ (y : Refusal). Err (refusal_of y.number q)) (sym x.refusal))
+refused_there t p n {l} q m same told given =
+    let x = fails t p n l told given in
+    rw (← same, x.lack) (ap (λ (y : Refusal). Err (refusal_of y.number q)) (sym x.refusal))
 
 module _ (f part : List ℕ) (p : ℕ) (cut : part ≡ take 29 (drop p f)) where
   module _ (rs : ℕ → List Rule) where
@@ -73,7 +74,8 @@ module _ (f part : List ℕ) (p : ℕ) (cut : part ≡ take 29 (drop p f)) where
   words_there = rw (cut, part_look text27 f p 2 (omega arith) (omega arith))
 
   module _ {a : Reading ℕ} (told : a ≡ of_field (passings {X = List ℕ}) 2 29 (look_at text27 part 2)) where
-    pub words_refused : {r : Refusal} → a ≡ Err r → of_field (passings {X = List ℕ}) (p + 2) (p + 2 + 27) (look_at text27 f (p + 2)) ≡ Err (refusal_of r.number (p + 2))
+    pub words_refused : {r : Refusal} → a ≡ Err r
+        → of_field (passings {X = List ℕ}) (p + 2) (p + 2 + 27) (look_at text27 f (p + 2)) ≡ Err (refusal_of r.number (p + 2))
     words_refused given = refused_there passings 2 29 (p + 2) (p + 2 + 27) words_there told given
 
     module _ {q : ℕ} (given : a ≡ Ok q) where
@@ -94,11 +96,13 @@ module _ (n : ℕ) (f : List ℕ) (p : ℕ) where
   unfolding read_at of_read
   closing_none w e = rw e
 
-  pub closing_some : (w : ℕ) → (w ≡ 0 → ⊥) → of_field passings p (p + w) (look_at (fixed (blanks w)) f p) ≡ of_read passings (read_at (closing_blanks n w) f p)
+  pub closing_some : (w : ℕ) → (w ≡ 0 → ⊥)
+      → of_field passings p (p + w) (look_at (fixed (blanks w)) f p) ≡ of_read passings (read_at (closing_blanks n w) f p)
   closing_some zero e = absurd (e refl)
   closing_some (suc w) e =
       let blank = blanks (suc w) in
-      let g : Gives passings f (closing_blanks n (suc w)) p (of_field passings p (p + length blank) (look_at (fixed blank) f p)) = last passings (λ v. at_end) in
+      let place = p + length blank in
+      let g : Gives passings f (closing_blanks n (suc w)) p (of_field passings p place (look_at (fixed blank) f p)) = last passings (λ v. at_end) in
       rw (length-replicate {A = ℕ} (suc w) 0x20) at (sym g.is)
 
 -- how many blanks stand between part i and a next one, and behind it where it is the last
@@ -126,15 +130,3 @@ module _ (i : ℕ) where
       by : (b : Bool) → leb i 2 ≡ b → cond b (69 - 29 * i) (128 - 29 * ((i - 3) % 4 + 1)) ≡ 0 → ⊥
       by true h e = let l = leb-true i 2 h in omega arith
       by false h e = omega arith
-
--- ---- marks, one after another
-
-module _ (room m : ℕ) where
-  pub mark_01 : m ≡ 1 → eqb room 15 ≡ mark_ok room m
-  mark_01 e = rw e (sym (or-false (eqb room 15)))
-
-  pub mark_02 : m ≡ 2 → leb 2 room ≡ mark_ok room m
-  mark_02 e = rw e (sym (or-false (leb 2 room)))
-
-  pub mark_03 : (m ≡ 1 → ⊥) → (m ≡ 2 → ⊥) → eqb m 3 && leb 1 room ≡ mark_ok room m
-  mark_03 d e = rw (ne_eqb m 1 d, ne_eqb m 2 e)

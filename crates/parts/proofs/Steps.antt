@@ -7,18 +7,21 @@ use Rattle.form.specs.Kind.{digits}
 use Rattle.form.specs.Form.{Form, ret, ◌>>=◌}
 use Rattle.form.specs.Place.{look_at, field_at, read_at}
 use Rattle.document.specs.Marks.{room_after}
-use Rattle.document.specs.Values.{Part}
 use Rattle.diskette.specs.Writing.{section, to_section_end, to_next_part}
 use Rattle.diskette.specs.Fields.{Name, text27, mark_rules, closing_blanks, parts}
 use Rattle.diskette.proofs.PartsSays.{one_part}
 use Rattle.fields.specs.Answers.{Reading, of_field, of_read, passings, numbers}
 use Rattle.fields.proofs.StepLaws.{Gives, at_end, onward, step, step_part, step_ruled}
 
+-- the place behind a form from p on, or why it is refused
+abbrev pub ends : {A : Type 0} → Form Name A → List ℕ → ℕ → Reading ℕ
+ends m s p = of_read passings (read_at m s p)
+
 -- what is made of a form's value makes no difference where the place alone is kept
-place_kept : {A B : Type 0} {f : List ℕ} (m : Form Name A) (h : A → B) {p : ℕ} → Gives passings f (m >>= λ a. ret (h a)) p (of_read passings (read_at m f p))
+place_kept : {A B : Type 0} {f : List ℕ} (m : Form Name A) (h : A → B) {p : ℕ} → Gives passings f (m >>= λ a. ret (h a)) p (ends m f p)
 place_kept {A} {B} {f} m h {p} =
-    let g : Gives passings f (m >>= λ a. ret (h a)) p (onward (of_read passings (read_at m f p)) (λ q. Ok q)) = step_part m (λ a. ret (h a)) passings _ (λ a q e. at_end) in
-    record { is = g.is ∙ all_told (of_read passings (read_at m f p)) }
+    let g : Gives passings f (m >>= λ a. ret (h a)) p (onward (ends m f p) (λ q. Ok q)) = step_part m (λ a. ret (h a)) passings _ (λ a q e. at_end) in
+    record { is = g.is ∙ all_told (ends m f p) }
   where
     all_told : (r : Reading ℕ) → onward r (λ q. Ok q) ≡ r
     all_told (Ok q) = refl
@@ -27,13 +30,13 @@ place_kept {A} {B} {f} m h {p} =
 -- what the code answers of one part behind part i, and of those behind it, so many as are left
 abbrev pub part_told : ℕ → ℕ → ℕ → List ℕ → ℕ → Reading ℕ
 part_told left i room s p =
-    onward (of_read (passings {X = Unit {0}}) (read_at (closing_blanks (section i) (to_next_part i)) s p)) (λ start.
+    onward (ends (closing_blanks (section i) (to_next_part i)) s p) (λ start.
     onward (of_field numbers start (start + 2) (field_at (digits 2) (mark_rules room left) s start)) (λ m.
     onward (of_field (passings {X = List ℕ}) m.1 (m.1 + 27) (look_at text27 s m.1)) (λ q.
-    of_read (passings {X = List Part}) (read_at (parts left (suc i) (room_after m.0 room)) s q))))
+    ends (parts left (suc i) (room_after m.0 room)) s q)))
 
 module _ (i room : ℕ) (s : List ℕ) (p : ℕ) where
-  over : Gives passings s (parts zero i room) p (of_read (passings {X = Unit {0}}) (read_at (closing_blanks (section i) (to_section_end i)) s p))
+  over : Gives passings s (parts zero i room) p (ends (closing_blanks (section i) (to_section_end i)) s p)
   unfolding parts
   over = place_kept (closing_blanks (section i) (to_section_end i)) (λ u. [])
 
@@ -43,10 +46,9 @@ module _ (i room : ℕ) (s : List ℕ) (p : ℕ) where
       step_part (closing_blanks (section i) (to_next_part i)) (λ u. one_part left i room) passings _ (λ u start e.
       step_ruled numbers _ (λ m. step passings _ (λ t. place_kept (parts left (suc i) (room_after m room)) (λ ps. record { mark = m; words = t } ∷ ps))))
 
-  pub parts_over : (left : ℕ) → left ≡ 0
-      → of_read (passings {X = List Part}) (read_at (parts left i room) s p) ≡ of_read (passings {X = Unit {0}}) (read_at (closing_blanks (section i) (to_section_end i)) s p)
+  pub parts_over : (left : ℕ) → left ≡ 0 → ends (parts left i room) s p ≡ ends (closing_blanks (section i) (to_section_end i)) s p
   parts_over left e = rw e over.is
 
-  pub part_steps : (left : ℕ) → 0 < left → of_read (passings {X = List Part}) (read_at (parts left i room) s p) ≡ part_told (left - 1) i room s p
+  pub part_steps : (left : ℕ) → 0 < left → ends (parts left i room) s p ≡ part_told (left - 1) i room s p
   part_steps zero h = absurd (omega arith)
   part_steps (suc left) h = let e : suc left - 1 ≡ left = omega arith in rw e (next left).is

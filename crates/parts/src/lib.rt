@@ -61,6 +61,7 @@ pub fn mark_ok(room: u64, mark: u64) -> bool
 }
 
 // The blanks from the end of part i to the end of its section.
+#[tactic(auto, unfolding(diskette::specs::Writing::to_section_end))]
 fn to_section_end(i: u64) -> usize
     ensures { result ≡ to_section_end i }
 {

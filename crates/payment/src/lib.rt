@@ -27,6 +27,7 @@ fn is_length(l: u64) -> bool
 }
 
 // The first field after A or a C, after so many payments that come to these sums.
+#[tactic(auto, using(crate::proofs::FirstFieldLaws::first_field_steps))]
 pub fn length_at(s: &[u8], p: usize, count: u64, sums: Sums) -> Reading<(u64, usize)>
     ensures { result ≡ of_field numbers p (p + 4) (field_at (digits 4) (first_field (totals_of count sums)) s.now p) }
 {

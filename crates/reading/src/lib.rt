@@ -27,7 +27,8 @@ pub fn read_full<R: Read>(reader: &mut R, buf: &mut [u8]) -> io::Result<usize>
     Ok(done)
 }
 
-// Reads so many bytes, or fewer where the input ends before.
+// Reads so many bytes, or fewer where the input ends before. std's `read_to_end` of a reader's `take` reads the same, but its contract
+// does not bound what it gives of bytes that are not known.
 pub fn read_up_to<R: Read>(alloc: Global, reader: &mut R, most: usize) -> io::Result<Vec<u8>>
     ensures bound { IfOk result (λ read. vec_len read ≤ most) }
     ensures input { IfOk result (λ read. IfSome (R.remaining reader.old) (λ input. read.items ≡ take most input)) }

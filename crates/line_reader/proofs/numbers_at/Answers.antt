@@ -1,9 +1,9 @@
 -- line_reader::numbers_at meets its contract: the tabs, and both stretches between them.
 use mathlib.Core.Path.{sym, ◌∙◌}
 use lib.Dec.{le→leb}
+use Rattle.std.proofs.Common.{leb-true}
 use borrow.Author.Tests.{not-true, not-false}
 use Rattle.form.proofs.BoolLaws.{T_of}
-use Rattle.fields.proofs.LeafLaws.{whole_inside}
 use Rattle.line_reader.proofs.KeptLaws.{failed}
 use Rattle.line_reader.proofs.numbers_at.Goals as goal
 
@@ -22,7 +22,7 @@ returns-in_err-cents c = rw c.from_residual-in_err-cents.ensures (λ new n. c.in
 pub returns : goal.returns
 returns c =
     record {
-      inside = whole_inside _ _ _ c.whole.ensures c.if-not-whole.false-raw;
+      inside = leb-true _ _ (sym c.whole.ensures ∙ not-false _ c.if-not-whole.false-raw);
       parted = sym c.parted.ensures ∙ not-false _ c.if-not-parted.false-raw;
       receiver = c.in_ok-accounts.ensures;
       amount = c.in_ok-cents.ensures;

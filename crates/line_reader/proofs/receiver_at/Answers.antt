@@ -58,7 +58,7 @@ returns c =
     record {
       fields =
           record {
-            first_bank = c.in-Ok.field-0;
+            first_bank = c.in-Ok.field-0-0;
             bank_code = c.in-Ok-c4.bank_code;
             account = c.in-Ok-c5.account;
             customer = c.in-Ok-c6.customer;
