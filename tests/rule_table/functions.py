@@ -6,6 +6,7 @@ from pathlib import Path
 from statements.calls import functions_of
 from statements.sources import HEAD, read_sources
 
+from .arguments import passed
 from .ways import ways_out
 
 # A goal of a way out that a proof answers, without the clause that it may be of.
@@ -42,10 +43,22 @@ class Functions:
         """Whether a way out of the function is proved by a goal of this name."""
         return fact in self.ways(path)
 
-    def gives(self, path: str, fact: str) -> set[int]:
-        """The numbers that stand at the way out which a fact is of."""
-        named = re.findall(r"\b[A-Z][A-Z_]+\b", self.ways(path).get(fact, ""))
-        return {self.constants[name] for name in named if name in self.constants}
+    def gives(self, path: str, fact: str, callers: tuple[str, ...] = ()) -> set[int]:
+        """The numbers that stand at the way out which a fact is of; where a parameter stands there, those that all of
+        these callers pass.
+        """
+        way = self.ways(path).get(fact, "")
+        named = [self.numbers_in(self.passed_at(way, path, caller)) for caller in callers]
+        return self.numbers_in(way) | (set.intersection(*named) if named else set())
+
+    def passed_at(self, way: str, path: str, caller: str) -> str:
+        """What a caller passes to a function for the parameters that stand at a way out of it."""
+        given = passed(self.texts[path], path.rpartition("::")[2], self.texts.get(caller, ""))
+        return " ".join(given[name] for name in given if re.search(rf"\b{name}\b", way))
+
+    def numbers_in(self, text: str) -> set[int]:
+        """The numbers whose names stand in a text."""
+        return {self.constants[name] for name in re.findall(r"\b[A-Z][A-Z_]+\b", text) if name in self.constants}
 
     def hands_on(self, path: str, fact: str) -> set[int]:
         """The numbers that the functions can refuse with which are called at the way out."""

@@ -190,13 +190,18 @@ fn length_at(s: &[u8], p: usize) -> Reading<(u64, usize)>
     Ok((l, q))
 }
 
-fn figure_at(s: &[u8], p: usize) -> Reading<usize>
+fn tested_at<F: Fn(u64) -> bool>(s: &[u8], p: usize, w: usize, number: u8, test: F) -> Reading<usize>
 {
-    let (v, q) = fields::number_at(s, p, 7)?;
-    if v != counted {
-        return Err(fields::refuse(refusals::NOT_COUNTED, p));
+    let (v, q) = fields::number_at(s, p, w)?;
+    if !test(v) {
+        return Err(fields::refuse(number, p));
     }
     Ok(q)
+}
+
+fn figure_at(s: &[u8], p: usize) -> Reading<usize>
+{
+    tested_at(s, p, 7, refusals::NOT_COUNTED, |v| v == counted)
 }
 
 fn file_at(s: &[u8]) -> Reading<usize>
@@ -303,13 +308,14 @@ Tested by `fields::fixed_at`, called through `fields::blanks_at` in
 ### E2
 
 `get E2 (digits 7) (figure t.count)`, 7 bytes at 4.
-Tested by `checker::figure_at`, called in `checker::file_at`.
+Tested by `checker::tested_at`, called through `checker::figure_at` in
+`checker::file_at`.
 
 | no. | the requirements | rule | proved as | case | wrong edit |
 |---|---|---|---|---|---|
 | 1 | the file ends before it is whole | `if_whole` | `returns-in_err-v` | `cut 390` | `last_field_is_short` |
 | 3 | a byte is no digit | `digit` | `returns-in_err-v` | `390=X` | `last_field_is_short` |
-| 14 | not the counted figure | `figure` | `returns-then-v-counted` | `390=1` | `last_field_is_short` |
+| 14 | not the counted figure | `figure` | `returns-then-not-test` | `390=1` | `last_field_is_short` |
 
 ## Numbers that no field gives
 

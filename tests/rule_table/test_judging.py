@@ -14,7 +14,7 @@ TABLE = "docs/RULES.md"
 ROW_OF_2 = "| 2 | not `0128` | `same` | `returns-then-ne` | `3=X` | `fixed_bytes_not_compared` |\n"
 ROW_OF_5 = "| 5 | no length | `is_length` | `returns-then-not-is_length` | `cents 7` | `last_field_is_short` |\n"
 ROW_OF_23 = "| 23 | too late | `in_span` | `returns-in-TooLate` | `4=31032004` | `last_field_is_short` |\n"
-ROW_OF_14 = "| 14 | not the counted figure | `figure` | `returns-then-v-counted` | `390=1` | `last_field_is_short` |\n"
+ROW_OF_14 = "| 14 | not the counted figure | `figure` | `returns-then-not-test` | `390=1` | `last_field_is_short` |\n"
 ROW_OF_NO_DIGIT = "| 3 | a byte is no digit | `digit` | `returns-in_err-v` | `133=X` | `last_field_is_short` |\n"
 ROW_OF_6 = "| 6 | too many | `most` | `returns-then-l-ge-MOST` | claim `limits_hold` | `last_field_is_short` |\n"
 A1_WITH_2 = f"{TREE}: A1 with 2, if_so (same bs f) tt not_fixed"
@@ -197,9 +197,22 @@ class TestRows(RulesTest):
             self.assertIn(f"{TABLE}:{line}: {fault}", reported)
 
     def test_a_rule_that_another_function_refuses_for(self) -> None:
-        code = "return Err(fields::refuse(refusals::NOT_COUNTED, p));"
-        reported = self.reported("crates/checker/src/lib.rt", code, "return not_counted(p);")
-        fault = "checker::figure_at does not give 14 where returns-then-v-counted is proved"
+        code = "return Err(fields::refuse(refusals::NO_MORE, p));"
+        reported = self.reported("crates/checker/src/lib.rt", code, "return too_many(p);")
+        fault = "checker::length_at does not give 6 where returns-then-l-ge-MOST is proved"
+        self.assertIn(f"{TABLE}:{self.line_of(ROW_OF_6)}: {fault}", reported)
+
+    def test_a_number_that_is_passed_otherwise(self) -> None:
+        fault = "checker::tested_at does not give 14 where returns-then-not-test is proved"
+        faults = [f"{TABLE}:{self.line_of(ROW_OF_14)}: {fault}"]
+        passed = "7, refusals::NOT_COUNTED"
+        for other in ("7, refusals::NO_DATE", "refusals::NOT_COUNTED, 7"):
+            self.assert_faults("crates/checker/src/lib.rt", passed, other, *faults)
+
+    def test_a_number_that_one_caller_does_not_pass(self) -> None:
+        through = "called through `checker::figure_at` in\n`checker::file_at`"
+        reported = self.reported(TABLE, through, "called in `checker::figure_at` and\n`checker::file_at`")
+        fault = "checker::tested_at does not give 14 where returns-then-not-test is proved"
         self.assertIn(f"{TABLE}:{self.line_of(ROW_OF_14)}: {fault}", reported)
 
     def test_a_case_that_is_not_there(self) -> None:
@@ -228,7 +241,7 @@ class TestNumbers(RulesTest):
 
     def test_another_number(self) -> None:
         self.assert_faults(
-            TABLE, self.ROW, self.ROW.replace("16", "14"), f"{TABLE}:88: it has 14 in the section of 16",
+            TABLE, self.ROW, self.ROW.replace("16", "14"), f"{TABLE}:89: it has 14 in the section of 16",
             "docs/REFUSALS.md: 14: no link to RULES.md#16",
         )
 
