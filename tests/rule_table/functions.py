@@ -61,8 +61,9 @@ class Functions:
         return {self.constants[name] for name in re.findall(r"\b[A-Z][A-Z_]+\b", text) if name in self.constants}
 
     def hands_on(self, path: str, fact: str) -> set[int]:
-        """The numbers that the functions can refuse with which are called at the way out."""
-        called = (self.path_of(name, path) for name in CALL.findall(self.ways(path).get(fact, "")))
+        """The numbers that the functions can refuse with which are called at the way out, unless it gives a content."""
+        way = self.ways(path).get(fact, "").strip()
+        called = () if way.startswith("Ok(") else (self.path_of(name, path) for name in CALL.findall(way))
         return set().union(*(self.refuses_with(each) for each in called if each != path))
 
     def refuses_with(self, path: str) -> set[int]:

@@ -196,6 +196,11 @@ class TestRows(RulesTest):
             fault = f"checker::length_at does not give {number} where returns-in_default is proved"
             self.assertIn(f"{TABLE}:{line}: {fault}", reported)
 
+    def test_a_content_that_is_made_of_another_answer(self) -> None:
+        reported = self.reported("crates/checker/src/lib.rt", "Err(fields::why(a))", "Ok(only(a))")
+        fault = "checker::length_at does not give 1 where returns-in_default is proved"
+        self.assertIn(f"{TABLE}:{self.line_of(ROW_OF_5) - 2}: {fault}", reported)
+
     def test_a_rule_that_another_function_refuses_for(self) -> None:
         code = "return Err(fields::refuse(refusals::NO_MORE, p));"
         reported = self.reported("crates/checker/src/lib.rt", code, "return too_many(p);")
