@@ -18,10 +18,9 @@ ghost use Rattle.output.specs.Writing.{over, written_of};
 ghost use Rattle.composer.specs.Telling.{FormedLine, PaymentLine, behind_letter, lines_parts, place_in, head_told, payment_told, LineTold, payments_told, listing_told};
 ghost use Rattle.composer.specs.Writing.{composed_payments, AcceptedListing, Ready};
 
-use fields::{FileKind, KindRead, Number, Refusal, refusals};
-use header::HeaderRead;
+use fields::{FileKind, Reading, Refusal, refusals};
+use line_reader::SeenLine;
 use output::Written;
-use payment::PaymentRead;
 use sums::Sums;
 
 mod line;

@@ -26,16 +26,16 @@ refused_in-requires c =
     let l = c.well_formed.0.1 in
     (formed, omega arith)
 
-pub returns-in_err : goal.returns-in_err
-returns-in_err c =
+pub returns-in-Err : goal.returns-in-Err
+returns-in-Err c =
     let formed : FormedLine true fields_of_header_line c.args.x.now = (omega arith, (omega arith, sym c.formed.ensures ∙ not-false _ c.if-not-formed.false-raw)) in
     header_refuses _ formed.1.1
     (c.header_at.ensures ∙ ap (λ f. of_read headers (read_at header f 0)) c.lay_header.ensures)
-    c.in_err.is c.refused_in.ensures
+    c.in-Err.is c.refused_in.ensures
 
-pub returns-in_ok : goal.returns-in_ok
-returns-in_ok c =
+pub returns-in-Ok : goal.returns-in-Ok
+returns-in-Ok c =
     let formed : FormedLine true fields_of_header_line c.args.x.now = (omega arith, (omega arith, sym c.formed.ensures ∙ not-false _ c.if-not-formed.false-raw)) in
     header_accepts _ formed.1.1
     (c.header_at.ensures ∙ ap (λ f. of_read headers (read_at header f 0)) c.lay_header.ensures)
-    c.in_ok.is
+    c.in-Ok.is

@@ -72,8 +72,8 @@ refused_in-requires c =
     let formed : FormedLine false (fields_with c.parts_of-k.result) c.args.x.now = let h = few_parts in (omega arith, (omega arith, sym c.formed.ensures ∙ not-false _ c.if-not-formed.false-raw)) in
     (formed, c.requires.0)
 
-pub returns-in_err : goal.returns-in_err
-returns-in_err c =
+pub returns-in-Err : goal.returns-in-Err
+returns-in-Err c =
     let parts : c.parts_of-k.result ≡ parts_of (length (split tab c.args.x.now)) = c.parts_of-k.ensures ∙ ap parts_of c.count_fields.ensures in
     let few_parts : c.parts_of-k.result ≤ most_parts = let e = parts in let h = few (length (split tab c.args.x.now)) in omega arith in
     let formed : FormedLine false (fields_with c.parts_of-k.result) c.args.x.now = let h = few_parts in (omega arith, (omega arith, sym c.formed.ensures ∙ not-false _ c.if-not-formed.false-raw)) in
@@ -82,12 +82,12 @@ returns-in_err c =
     let behind : List ℕ = drop c.bytes_of-bytes.result c.args.space.now in
     let laid-long : length laid ≡ c.bytes_of-bytes.result = c.lay_payment.auto.out ∙ length-take-le _ _ within in
     let answer : List ℕ → Reading (Sums × ℕ) = λ f. let a = c.args in of_read (payments_on a.sums) (read_at (whole_payment (letters_of a.kind) (totals_of a.count a.sums)) f 0) in
-    let read : c.payment_record-c.result ≡ answer (lay (record_c c.parts_of-k.result) (behind_letter (split tab c.args.x.now))) = c.payment_record-c.ensures ∙ ap answer (take_at laid behind _ laid-long ∙ c.lay_payment.ensures) in
-    payment_refuses _ _ _ _ _ parts formed.1.1 read c.in_err.is
+    let read : c.payment_record.result ≡ answer (lay (record_c c.parts_of-k.result) (behind_letter (split tab c.args.x.now))) = c.payment_record.ensures ∙ ap answer (take_at laid behind _ laid-long ∙ c.lay_payment.ensures) in
+    payment_refuses _ _ _ _ _ parts formed.1.1 read c.in-Err.is
     c.refused_in.ensures
 
-pub returns-in_ok : goal.returns-in_ok
-returns-in_ok c =
+pub returns-in-Ok : goal.returns-in-Ok
+returns-in-Ok c =
     let parts : c.parts_of-k.result ≡ parts_of (length (split tab c.args.x.now)) = c.parts_of-k.ensures ∙ ap parts_of c.count_fields.ensures in
     let few_parts : c.parts_of-k.result ≤ most_parts = let e = parts in let h = few (length (split tab c.args.x.now)) in omega arith in
     let formed : FormedLine false (fields_with c.parts_of-k.result) c.args.x.now = let h = few_parts in (omega arith, (omega arith, sym c.formed.ensures ∙ not-false _ c.if-not-formed.false-raw)) in
@@ -96,5 +96,5 @@ returns-in_ok c =
     let behind : List ℕ = drop c.bytes_of-bytes.result c.args.space.now in
     let laid-long : length laid ≡ c.bytes_of-bytes.result = c.lay_payment.auto.out ∙ length-take-le _ _ within in
     let answer : List ℕ → Reading (Sums × ℕ) = λ f. let a = c.args in of_read (payments_on a.sums) (read_at (whole_payment (letters_of a.kind) (totals_of a.count a.sums)) f 0) in
-    let read : c.payment_record-c.result ≡ answer (lay (record_c c.parts_of-k.result) (behind_letter (split tab c.args.x.now))) = c.payment_record-c.ensures ∙ ap answer (take_at laid behind _ laid-long ∙ c.lay_payment.ensures) in
-    payment_accepts _ _ _ _ _ parts formed.1.1 read c.in_ok.is c.bytes_of-bytes.ensures
+    let read : c.payment_record.result ≡ answer (lay (record_c c.parts_of-k.result) (behind_letter (split tab c.args.x.now))) = c.payment_record.ensures ∙ ap answer (take_at laid behind _ laid-long ∙ c.lay_payment.ensures) in
+    payment_accepts _ _ _ _ _ parts formed.1.1 read c.in-Ok.is c.bytes_of-bytes.ensures

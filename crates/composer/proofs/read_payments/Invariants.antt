@@ -12,8 +12,8 @@ use Rattle.diskette.specs.Writing.{section}
 use Rattle.composer.proofs.ReadingLaws.{Reading}
 use Rattle.composer.proofs.read_payments.Given as goal
 
-abbrev pub invariant-loop-why : goal.invariant-loop-why
-invariant-loop-why l = Reading l.l l.kind l.start l.count l.sums l.size l.p × (length l.space ≡ 128 * section most_parts)
+abbrev pub invariant-loop-line : goal.invariant-loop-line
+invariant-loop-line l = Reading l.l l.kind l.start l.count l.sums l.size l.p × (length l.space ≡ 128 * section most_parts)
 
-abbrev pub decreases-loop-why : goal.decreases-loop-why
-decreases-loop-why l = most_payments - l.count
+abbrev pub decreases-loop-line : goal.decreases-loop-line
+decreases-loop-line l = most_payments - l.count
