@@ -6,11 +6,14 @@ from pathlib import Path
 from statements.calls import functions_of
 from statements.sources import HEAD, read_sources
 
+from .arguments import passed
 from .ways import ways_out
 
 # A goal of a way out that a proof answers, without the clause that it may be of.
 ANSWERED = re.compile(r"^pub (returns(?:-(?!clause-)[^\s-]+)*)", re.MULTILINE)
 CONSTANT = re.compile(r"^(?:pub )?const (\w+): u8 = (\d+);", re.MULTILINE)
+# A call that is no method's.
+CALL = re.compile(r"(?<![\w:.])((?:\w+::)*\w+)\(")
 
 
 class Functions:
@@ -40,14 +43,37 @@ class Functions:
         """Whether a way out of the function is proved by a goal of this name."""
         return fact in self.ways(path)
 
-    def gives(self, path: str, fact: str) -> set[int]:
-        """The numbers that stand at the way out which a fact is of."""
-        named = re.findall(r"\b[A-Z][A-Z_]+\b", self.ways(path).get(fact, ""))
-        return {self.constants[name] for name in named if name in self.constants}
+    def gives(self, path: str, fact: str, callers: tuple[str, ...] = ()) -> set[int]:
+        """The numbers that stand at the way out which a fact is of; where a parameter stands there, those that all of
+        these callers pass.
+        """
+        way = self.ways(path).get(fact, "")
+        named = [self.numbers_in(self.passed_at(way, path, caller)) for caller in callers]
+        return self.numbers_in(way) | (set.intersection(*named) if named else set())
 
-    def hands_on(self, path: str, fact: str) -> bool:
-        """Whether the function hands on there what another one refused."""
-        return "Refused(" in self.ways(path).get(fact, "") and not self.gives(path, fact)
+    def passed_at(self, way: str, path: str, caller: str) -> str:
+        """What a caller passes to a function for the parameters that stand at a way out of it."""
+        given = passed(self.texts[path], path.rpartition("::")[2], self.texts.get(caller, ""))
+        return " ".join(given[name] for name in given if re.search(rf"\b{name}\b", way))
+
+    def numbers_in(self, text: str) -> set[int]:
+        """The numbers whose names stand in a text."""
+        return {self.constants[name] for name in re.findall(r"\b[A-Z][A-Z_]+\b", text) if name in self.constants}
+
+    def hands_on(self, path: str, fact: str) -> set[int]:
+        """The numbers that the functions can refuse with which are called at the way out, unless it gives a content."""
+        way = self.ways(path).get(fact, "").strip()
+        called = () if way.startswith("Ok(") else (self.path_of(name, path) for name in CALL.findall(way))
+        return set().union(*(self.refuses_with(each) for each in called if each != path))
+
+    def refuses_with(self, path: str) -> set[int]:
+        """The numbers that stand at the ways out of a function, or that it hands on there."""
+        return set().union(*(self.gives(path, fact) | self.hands_on(path, fact) for fact in self.ways(path)))
+
+    def path_of(self, called: str, caller: str) -> str:
+        """The path of the function that another one calls by this name."""
+        within = f"{caller.partition('::')[0]}::{called}"
+        return within if self.has(within) else called
 
     def ways(self, path: str) -> dict[str, str]:
         """The ways out of a function, by the facts that they are proved as."""

@@ -49,13 +49,14 @@ def rule_faults(row: Row, demand: Demand, names: Names) -> list[str]:
 
 
 def fact_faults(row: Row, block: Block, names: Names, may_hand_on: bool) -> list[str]:
-    """The proof has the fact, and at the fact's way out the number is given, or what another refused."""
+    """The proof has the fact, and at the fact's way out the number is given, or by a function that is called there."""
     functions = names.functions
     if not functions.has_fact(block.tested, row.fact):
         return [f"{row.fact} is no fact in the proof of {block.tested}"]
-    if row.number in functions.gives(block.tested, row.fact):
+    callers = (block.through,) if block.through else block.callers
+    if row.number in functions.gives(block.tested, row.fact, callers):
         return []
-    if may_hand_on and functions.hands_on(block.tested, row.fact):
+    if may_hand_on and row.number in functions.hands_on(block.tested, row.fact):
         return []
     return [f"{block.tested} does not give {row.number} where {row.fact} is proved"]
 

@@ -126,84 +126,90 @@ pub const NOT_COUNTED: u8 = 14;
 pub const NO_ROOM: u8 = 16;
 pub const TOO_LATE: u8 = 23;
 """
-FIELDS = """pub fn fixed_at(s: &[u8], p: usize) -> Passed
+FIELDS = """pub type Reading<T> = Result<T, Refusal>;
+
+fn bytes_at(s: &[u8], p: usize, w: usize) -> Reading<&[u8]>
 {
     if !whole {
-        return Passed::Refused(refuse(refusals::SHORT, p));
+        return Err(refuse(refusals::SHORT, p));
     }
-    if !same {
-        return Passed::Refused(refuse(refusals::NOT_FIXED, p));
-    }
-    Passed::To(q)
+    Ok(&s[p..p + w])
 }
 
-pub fn blanks_at(s: &[u8], p: usize) -> Passed
+pub fn fixed_at(s: &[u8], p: usize, want: &[u8]) -> Reading<usize>
 {
-    fixed_at(s, p)
+    let f = bytes_at(s, p, want.len())?;
+    if f != want {
+        return Err(refuse(refusals::NOT_FIXED, p));
+    }
+    Ok(p + want.len())
 }
 
-pub fn number_at(s: &[u8], p: usize) -> Number
+pub fn blanks_at(s: &[u8], p: usize) -> Reading<usize>
 {
-    if !whole {
-        return Number::Refused(refuse(refusals::SHORT, p));
-    }
-    let Digits::Are(v) = f else {
-        return Number::Refused(refuse(refusals::NO_DIGIT, p));
-    };
-    Number::Is(v, q)
+    fixed_at(s, p, b"  ")
+}
+
+fn number_in(f: &[u8], p: usize) -> Reading<u64>
+{
+    digits_of(f).ok_or(refuse(refusals::NO_DIGIT, p))
+}
+
+pub fn number_at(s: &[u8], p: usize, w: usize) -> Reading<(u64, usize)>
+{
+    let f = bytes_at(s, p, w)?;
+    let v = number_in(f, p)?;
+    Ok((v, p + w))
 }
 """
-CHECKER = """fn day_at(s: &[u8], p: usize) -> Day
+CHECKER = """fn day_at(s: &[u8], p: usize) -> Reading<(Day, usize)>
 {
-    let a = fields::number_at(s, p);
-    match a {
-        Number::Is(d, q) => {
-            if !is_day(d) {
-                return Day::Refused(fields::refuse(refusals::NO_DATE, p));
-            }
-            match date_case(d) {
-                DateCase::NoYear => return Day::Refused(fields::refuse(refusals::NO_DATE, p)),
-                DateCase::TooLate => return Day::Refused(fields::refuse(refusals::TOO_LATE, p)),
-                DateCase::InOrder => Day::On(d, q),
-            }
-        }
-        Number::Refused(r) => Day::Refused(r),
+    let (d, q) = fields::number_at(s, p, 8)?;
+    if !is_day(d) {
+        return Err(fields::refuse(refusals::NO_DATE, p));
+    }
+    match date_case(d) {
+        DateCase::NoYear => return Err(fields::refuse(refusals::NO_DATE, p)),
+        DateCase::TooLate => Err(fields::refuse(refusals::TOO_LATE, p)),
+        DateCase::InOrder => Ok((d, q)),
     }
 }
 
-fn length_at(s: &[u8], p: usize) -> Number
+fn length_at(s: &[u8], p: usize) -> Reading<(u64, usize)>
 {
-    let a = fields::number_at(s, p);
-    let Number::Is(l, q) = a else {
-        return Number::Refused(a.why());
+    let a = fields::number_at(s, p, 4);
+    let Ok((l, q)) = a else {
+        return Err(fields::why(a));
     };
     if !is_length(l) {
-        return Number::Refused(fields::refuse(refusals::NO_LENGTH, p));
+        return Err(fields::refuse(refusals::NO_LENGTH, p));
     }
     if l >= MOST {
-        return Number::Refused(fields::refuse(refusals::NO_MORE, p));
+        return Err(fields::refuse(refusals::NO_MORE, p));
     }
-    Number::Is(l, q)
+    Ok((l, q))
 }
 
-fn figure_at(s: &[u8], p: usize) -> Passed
+fn tested_at<F: Fn(u64) -> bool>(s: &[u8], p: usize, w: usize, number: u8, test: F) -> Reading<usize>
 {
-    let a = fields::number_at(s, p);
-    let Number::Is(v, q) = a else {
-        return Passed::Refused(a.why());
-    };
-    if v != counted {
-        return Passed::Refused(fields::refuse(refusals::NOT_COUNTED, p));
+    let (v, q) = fields::number_at(s, p, w)?;
+    if !test(v) {
+        return Err(fields::refuse(number, p));
     }
-    Passed::To(q)
+    Ok(q)
 }
 
-fn file_at(s: &[u8]) -> Passed
+fn figure_at(s: &[u8], p: usize) -> Reading<usize>
 {
-    let a1 = fields::fixed_at(s, 0);
+    tested_at(s, p, 7, refusals::NOT_COUNTED, |v| v == counted)
+}
+
+fn file_at(s: &[u8]) -> Reading<usize>
+{
+    let a1 = fields::fixed_at(s, 0, b"0128");
     let a2 = day_at(s, 4);
     let first = length_at(s, p);
-    let m = fields::number_at(s, p);
+    let m = fields::number_at(s, p, 2);
     let b = fields::blanks_at(s, p);
     figure_at(s, p)
 }
@@ -248,8 +254,8 @@ Tested by `fields::fixed_at`, called in `checker::file_at`.
 
 | no. | the requirements | rule | proved as | case | wrong edit |
 |---|---|---|---|---|---|
-| 1 | the file ends before it is whole | `if_whole` | `returns-then-not-whole` | `cut 3` | `last_field_is_short` |
-| 2 | not `0128` | `same` | `returns-then-not-same` | `3=X` | `fixed_bytes_not_compared` |
+| 1 | the file ends before it is whole | `if_whole` | `returns-in_err-f` | `cut 3` | `last_field_is_short` |
+| 2 | not `0128` | `same` | `returns-then-ne` | `3=X` | `fixed_bytes_not_compared` |
 
 ### A2
 
@@ -258,8 +264,8 @@ Tested by `checker::day_at`, called in `checker::file_at`.
 
 | no. | the requirements | rule | proved as | case | wrong edit |
 |---|---|---|---|---|---|
-| 1 | the file ends before it is whole | `if_whole` | `returns-in-Refused` | `cut 11` | `last_field_is_short` |
-| 3 | a byte is no digit | `optional` | `returns-in-Refused` | `11=X` | `last_field_is_short` |
+| 1 | the file ends before it is whole | `if_whole` | `returns-in_err-d` | `cut 11` | `last_field_is_short` |
+| 3 | a byte is no digit | `optional` | `returns-in_err-d` | `11=X` | `last_field_is_short` |
 | 10 | no date | `is_day` | `returns-then-not-is_day` | `4=30022004` | `last_field_is_short` |
 | 10 | no year | `is_year` | `returns-in-NoYear` | `4=15030000` | `last_field_is_short` |
 | 23 | too late | `in_span` | `returns-in-TooLate` | `4=31032004` | `last_field_is_short` |
@@ -285,8 +291,8 @@ Tested by `fields::number_at`, called in `checker::file_at`.
 
 | no. | the requirements | rule | proved as | case | wrong edit |
 |---|---|---|---|---|---|
-| 1 | the file ends before it is whole | `if_whole` | `returns-then-not-whole` | `cut 133` | `last_field_is_short` |
-| 3 | a byte is no digit | `digit` | `returns-in_default` | `133=X` | `last_field_is_short` |
+| 1 | the file ends before it is whole | `if_whole` | `returns-in_err-f` | `cut 133` | `last_field_is_short` |
+| 3 | a byte is no digit | `digit` | `returns-in_err-v` | `133=X` | `last_field_is_short` |
 
 ### closing
 
@@ -296,19 +302,20 @@ Tested by `fields::fixed_at`, called through `fields::blanks_at` in
 
 | no. | the requirements | rule | proved as | case | wrong edit |
 |---|---|---|---|---|---|
-| 1 | the file ends before it is whole | `if_whole` | `returns-then-not-whole` | `cut 135` | `last_field_is_short` |
-| 2 | not blanks | `same` | `returns-then-not-same` | `135=X` | `fixed_bytes_not_compared` |
+| 1 | the file ends before it is whole | `if_whole` | `returns-in_err-f` | `cut 135` | `last_field_is_short` |
+| 2 | not blanks | `same` | `returns-then-ne` | `135=X` | `fixed_bytes_not_compared` |
 
 ### E2
 
 `get E2 (digits 7) (figure t.count)`, 7 bytes at 4.
-Tested by `checker::figure_at`, called in `checker::file_at`.
+Tested by `checker::tested_at`, called through `checker::figure_at` in
+`checker::file_at`.
 
 | no. | the requirements | rule | proved as | case | wrong edit |
 |---|---|---|---|---|---|
-| 1 | the file ends before it is whole | `if_whole` | `returns-in_default` | `cut 390` | `last_field_is_short` |
-| 3 | a byte is no digit | `digit` | `returns-in_default` | `390=X` | `last_field_is_short` |
-| 14 | not the counted figure | `figure` | `returns-then-v-counted` | `390=1` | `last_field_is_short` |
+| 1 | the file ends before it is whole | `if_whole` | `returns-in_err-v` | `cut 390` | `last_field_is_short` |
+| 3 | a byte is no digit | `digit` | `returns-in_err-v` | `390=X` | `last_field_is_short` |
+| 14 | not the counted figure | `figure` | `returns-then-not-test` | `390=1` | `last_field_is_short` |
 
 ## Numbers that no field gives
 
@@ -370,8 +377,8 @@ Rules: [A2](RULES.md#a2).
 """
 
 
-ANSWERS = """pub returns-then-not-same : goal.returns-then-not-same
-returns-then-not-same c = search rules
+ANSWERS = """pub returns-then-ne : goal.returns-then-ne
+returns-then-ne c = search rules
 """
 
 FILES = {

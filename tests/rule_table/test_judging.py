@@ -11,9 +11,11 @@ from .sample import FILES, PAGE
 
 TREE = "crates/diskette/specs/Fields.antt"
 TABLE = "docs/RULES.md"
-ROW_OF_2 = "| 2 | not `0128` | `same` | `returns-then-not-same` | `3=X` | `fixed_bytes_not_compared` |\n"
+ROW_OF_2 = "| 2 | not `0128` | `same` | `returns-then-ne` | `3=X` | `fixed_bytes_not_compared` |\n"
 ROW_OF_5 = "| 5 | no length | `is_length` | `returns-then-not-is_length` | `cents 7` | `last_field_is_short` |\n"
 ROW_OF_23 = "| 23 | too late | `in_span` | `returns-in-TooLate` | `4=31032004` | `last_field_is_short` |\n"
+ROW_OF_14 = "| 14 | not the counted figure | `figure` | `returns-then-not-test` | `390=1` | `last_field_is_short` |\n"
+ROW_OF_NO_DIGIT = "| 3 | a byte is no digit | `digit` | `returns-in_err-v` | `133=X` | `last_field_is_short` |\n"
 ROW_OF_6 = "| 6 | too many | `most` | `returns-then-l-ge-MOST` | claim `limits_hold` | `last_field_is_short` |\n"
 A1_WITH_2 = f"{TREE}: A1 with 2, if_so (same bs f) tt not_fixed"
 
@@ -38,8 +40,12 @@ class RulesTest(unittest.TestCase):
     def assert_row_fault(self, old: str, new: str, fault: str, row: str = ROW_OF_2) -> None:
         """Of a row in which this is written for that, one fault is reported at its line."""
         self.assertIn(old, row)
-        line = PAGE[:PAGE.index(row)].count("\n") + 1
-        self.assert_faults(TABLE, row, row.replace(old, new), f"{TABLE}:{line}: {fault}")
+        self.assert_faults(TABLE, row, row.replace(old, new), f"{TABLE}:{self.line_of(row)}: {fault}")
+
+    @staticmethod
+    def line_of(row: str) -> int:
+        """The line of the page in which a row stands."""
+        return PAGE[:PAGE.index(row)].count("\n") + 1
 
 
 class TestRight(RulesTest):
@@ -69,7 +75,7 @@ class TestDemands(RulesTest):
         self.assert_faults(TABLE, ROW_OF_5 + ROW_OF_6, ROW_OF_6 + ROW_OF_5, fault)
 
     def test_a_number_that_the_field_cannot_be_refused_with(self) -> None:
-        row = ROW_OF_2 + "| 3 | a byte | `digit` | `returns-then-not-same` | `3=X` | `last_field_is_short` |\n"
+        row = ROW_OF_2 + "| 3 | a byte | `digit` | `returns-then-ne` | `3=X` | `last_field_is_short` |\n"
         self.assert_faults(
             TABLE, ROW_OF_2, row, f"{TABLE}:14: the tree does not refuse A1 with 3, or not so often",
             "docs/REFUSALS.md: 3: no link to RULES.md#a1",
@@ -142,8 +148,8 @@ class TestHeads(RulesTest):
         fault = "fields::fixed_at is proved at returns-then-s, which is none of its ways out"
         faults = [f"{TABLE}: {name}: {fault}" for name in ("A1", "closing")]
         answers = "crates/fields/proofs/fixed_at/Answers.antt"
-        self.assert_faults(answers, "pub returns-then-not-same", "pub returns-then-s", *faults)
-        self.assert_faults(answers, "pub returns-then-not-same", "pub returns-then-not-same-clause-answer")
+        self.assert_faults(answers, "pub returns-then-ne", "pub returns-then-s", *faults)
+        self.assert_faults(answers, "pub returns-then-ne", "pub returns-then-ne-clause-answer")
 
     def test_no_function(self) -> None:
         reported = self.reported(TABLE, "Tested by `checker::day_at`", "Looked at by `checker::day_at`")
@@ -166,19 +172,53 @@ class TestRows(RulesTest):
         self.assert_row_fault("`most`", "`first_field`", "first_field does not stand in (ltb l most)", ROW_OF_6)
 
     def test_a_fact_that_the_proof_has_not(self) -> None:
-        for fact in ("returns-then-same", "returns-then-not-same-2", "returns-in_default"):
+        for fact in ("returns-then-eq", "returns-then-ne-2", "returns-in_default"):
             fault = f"{fact} is no fact in the proof of fields::fixed_at"
-            self.assert_row_fault("returns-then-not-same", fact, fault)
+            self.assert_row_fault("returns-then-ne", fact, fault)
 
     def test_a_fact_of_another_way_out(self) -> None:
         fault = "fields::fixed_at does not give 2 where {} is proved"
-        for fact in ("returns-then-not-whole", "returns"):
-            self.assert_row_fault("returns-then-not-same", fact, fault.format(fact))
+        for fact in ("returns-in_err-f", "returns"):
+            self.assert_row_fault("returns-then-ne", fact, fault.format(fact))
         fault = "checker::day_at does not give 23 where {} is proved"
         for fact in ("returns-in-NoYear", "returns-in-InOrder"):
             self.assert_row_fault("returns-in-TooLate", fact, fault.format(fact), ROW_OF_23)
         fault = "checker::length_at does not give 6 where returns-in_default is proved"
         self.assert_row_fault("returns-then-l-ge-MOST", "returns-in_default", fault, ROW_OF_6)
+
+    def test_a_fact_where_a_function_is_called_that_does_not_refuse_so(self) -> None:
+        fault = "fields::number_at does not give 3 where returns-in_err-f is proved"
+        self.assert_row_fault("returns-in_err-v", "returns-in_err-f", fault, ROW_OF_NO_DIGIT)
+
+    def test_a_refusal_that_is_not_handed_on(self) -> None:
+        reported = self.reported("crates/checker/src/lib.rt", "fields::why(a)", "NO_REFUSAL")
+        for line, number in ((self.line_of(ROW_OF_5) - 2, 1), (self.line_of(ROW_OF_5) - 1, 3)):
+            fault = f"checker::length_at does not give {number} where returns-in_default is proved"
+            self.assertIn(f"{TABLE}:{line}: {fault}", reported)
+
+    def test_a_content_that_is_made_of_another_answer(self) -> None:
+        reported = self.reported("crates/checker/src/lib.rt", "Err(fields::why(a))", "Ok(only(a))")
+        fault = "checker::length_at does not give 1 where returns-in_default is proved"
+        self.assertIn(f"{TABLE}:{self.line_of(ROW_OF_5) - 2}: {fault}", reported)
+
+    def test_a_rule_that_another_function_refuses_for(self) -> None:
+        code = "return Err(fields::refuse(refusals::NO_MORE, p));"
+        reported = self.reported("crates/checker/src/lib.rt", code, "return too_many(p);")
+        fault = "checker::length_at does not give 6 where returns-then-l-ge-MOST is proved"
+        self.assertIn(f"{TABLE}:{self.line_of(ROW_OF_6)}: {fault}", reported)
+
+    def test_a_number_that_is_passed_otherwise(self) -> None:
+        fault = "checker::tested_at does not give 14 where returns-then-not-test is proved"
+        faults = [f"{TABLE}:{self.line_of(ROW_OF_14)}: {fault}"]
+        passed = "7, refusals::NOT_COUNTED"
+        for other in ("7, refusals::NO_DATE", "refusals::NOT_COUNTED, 7"):
+            self.assert_faults("crates/checker/src/lib.rt", passed, other, *faults)
+
+    def test_a_number_that_one_caller_does_not_pass(self) -> None:
+        through = "called through `checker::figure_at` in\n`checker::file_at`"
+        reported = self.reported(TABLE, through, "called in `checker::figure_at` and\n`checker::file_at`")
+        fault = "checker::tested_at does not give 14 where returns-then-not-test is proved"
+        self.assertIn(f"{TABLE}:{self.line_of(ROW_OF_14)}: {fault}", reported)
 
     def test_a_case_that_is_not_there(self) -> None:
         self.assert_row_fault("`3=X`", "`3=Y`", "3=Y is no case of tests/cases.txt")
@@ -206,7 +246,7 @@ class TestNumbers(RulesTest):
 
     def test_another_number(self) -> None:
         self.assert_faults(
-            TABLE, self.ROW, self.ROW.replace("16", "14"), f"{TABLE}:88: it has 14 in the section of 16",
+            TABLE, self.ROW, self.ROW.replace("16", "14"), f"{TABLE}:89: it has 14 in the section of 16",
             "docs/REFUSALS.md: 14: no link to RULES.md#16",
         )
 
