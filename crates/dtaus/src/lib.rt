@@ -29,17 +29,31 @@ const WRITTEN_FIGURES: usize = 3;
 
 const SPOT_FIGURES: usize = 4;
 
+// Tells the figures: the result begins with them.
+#[tactic(auto, using(crate::proofs::TellingLaws::all_told))]
+fn tell(res: &mut [u64], figures: &[u64])
+    requires { length figures.now ≤ length res.old }
+    ensures { res.new ≡ told figures.now res.old }
+{
+    res[..figures.len()].copy_from_slice(figures);
+}
+
 // Tells number and place, the count, and the sums in the order of E.
 fn tell_outcome(res: &mut [u64], checked: Checked)
     requires { 6 ≤ length res.old }
     ensures { res.new ≡ told (outcome_figures (record { verdict = checked.verdict; totals = totals_of checked.count checked.sums })) res.old }
 {
-    res[0] = checked.verdict.number as u64;
-    res[1] = checked.verdict.place as u64;
-    res[2] = checked.count;
-    res[3] = checked.sums.accounts.0;
-    res[4] = checked.sums.banks.0;
-    res[5] = checked.sums.cents.0;
+    tell(
+        res,
+        &[
+            u64::from(checked.verdict.number),
+            checked.verdict.place as u64,
+            checked.count,
+            checked.sums.accounts.0,
+            checked.sums.banks.0,
+            checked.sums.cents.0,
+        ],
+    );
 }
 
 // Tells number and place, the number of files, and that of their payments.
@@ -47,10 +61,15 @@ fn tell_medium(res: &mut [u64], checked: MediumChecked)
     requires { 4 ≤ length res.old }
     ensures { res.new ≡ told (medium_figures (record { verdict = checked.verdict; files = checked.files; payments = checked.payments })) res.old }
 {
-    res[0] = checked.verdict.number as u64;
-    res[1] = checked.verdict.place as u64;
-    res[2] = checked.files;
-    res[3] = checked.payments;
+    tell(
+        res,
+        &[
+            u64::from(checked.verdict.number),
+            checked.verdict.place as u64,
+            checked.files,
+            checked.payments,
+        ],
+    );
 }
 
 // Tells number and place, and the length.
@@ -58,9 +77,14 @@ fn tell_written(res: &mut [u64], w: Written)
     requires { 3 ≤ length res.old }
     ensures { res.new ≡ told (written_figures w) res.old }
 {
-    res[0] = w.verdict.number as u64;
-    res[1] = w.verdict.place as u64;
-    res[2] = w.length as u64;
+    tell(
+        res,
+        &[
+            u64::from(w.verdict.number),
+            w.verdict.place as u64,
+            w.length as u64,
+        ],
+    );
 }
 
 // Tells number and place, and where the stretch begins and ends.
@@ -68,26 +92,27 @@ fn tell_spot(res: &mut [u64], spot: Spot)
     requires { 4 ≤ length res.old }
     ensures { res.new ≡ told (spot_figures spot) res.old }
 {
-    res[0] = spot.verdict.number as u64;
-    res[1] = spot.verdict.place as u64;
-    res[2] = spot.from as u64;
-    res[3] = spot.to as u64;
+    tell(
+        res,
+        &[
+            u64::from(spot.verdict.number),
+            spot.verdict.place as u64,
+            spot.from as u64,
+            spot.to as u64,
+        ],
+    );
 }
 
 // The text that a number names: 0, 1 and 2 are C14a, C15 and C16, and what follows the parts, from the first on.
 fn text_named(wanted: usize) -> Wanted
     ensures { result ≡ text_named wanted }
 {
-    if wanted == 0 {
-        return Wanted::C14a;
+    match wanted {
+        0 => Wanted::C14a,
+        1 => Wanted::C15,
+        2 => Wanted::C16,
+        _ => Wanted::Part(wanted - 2),
     }
-    if wanted == 1 {
-        return Wanted::C15;
-    }
-    if wanted == 2 {
-        return Wanted::C16;
-    }
-    Wanted::Part(wanted - 2)
 }
 
 // As the header's DTAUS_VERSION.

@@ -5,10 +5,11 @@
 use Rattle.std.proofs.Common.{◌≡◌, ℕ, ◌+◌, List, [], Ok, Err, sym, refl, ap, ◌∙◌}
 use Rattle.form.specs.Kind.{Kind, Value, width}
 use Rattle.form.specs.Form.{Rule, Form, ret, field, ◌>>=◌}
-use Rattle.form.specs.Reader.{Look, has, lacks, ◌then◌}
+use Rattle.form.specs.Reader.{Look, has, lacks}
 use Rattle.form.specs.Place.{look_at, field_at, Read, done, halt, read_at, and_then}
 use Rattle.form.proofs.PlaceLaws.{read_bind}
 use Rattle.fields.specs.Answers.{Reading, Telling, of_field, of_read}
+use Rattle.fields.proofs.WalkLaws.{plain}
 
 -- what follows a content
 abbrev pub onward : {S T : Type 0} → Reading S → (S → Reading T) → Reading T
@@ -22,11 +23,6 @@ all_told (Err r) = refl
 -- the fields of m from place p of the file f on give g, of which t is kept
 pub record Gives {A T N : Type 0} (t : Telling A T) (f : List ℕ) (m : Form N A) (p : ℕ) (g : Reading T) : Type 0 where
   pub is : of_read t (read_at m f p) ≡ g
-
--- a field without rules of its own
-plain : {X : Type 0} (l : Look X) → ◌then◌ l (λ v. has v) ≡ l
-plain (has v) = refl
-plain (lacks z) = refl
 
 pub at_end : {A T N : Type 0} {t : Telling A T} {f : List ℕ} {a : A} {q : ℕ} → Gives {N = N} t f (ret a) q (Ok (t a q))
 unfolding read_at of_read

@@ -1,9 +1,10 @@
 -- Code that reads a form field by field, whatever the names of its fields: where it stands, what it owes, and how a field or another reader
 -- takes it on or ends it.
 -- The invariant is `Walk`: the code has come to place p, and the answer g that it owes is what the fields from there on give. The start owes the
--- whole form; a field with a content takes the walk behind it, to the form that follows that value (`past`); a field without one is the refusal
--- that is owed (`stopped`); at the form's end the answer is given (`finish`). A form that another reader reads takes the walk on in the same two
--- ways, because forms one after another are read one after another (`read_bind`).
+-- whole form; a field with a content takes the walk behind it, to the form that follows that value (`past`, `past_ruled`); a field without one is
+-- the refusal that is owed (`stop`, `stop_ruled`); at the form's end the answer is given (`finish`). A form that another reader reads takes the
+-- walk on in the same two ways, because forms one after another are read one after another (`read_bind`). Loops go by walks; readers of a known row
+-- of fields go by the steps of `StepLaws`.
 use Rattle.std.proofs.Common.{◌≡◌, ℕ, ◌+◌, List, [], Ok, Err, sym, refl, ap, ◌∙◌, arith}
 use Rattle.form.specs.Kind.{Kind, Value, width}
 use Rattle.form.specs.Form.{Rule, Form, ret, field, ◌>>=◌}
@@ -64,6 +65,32 @@ module _ {A T N : Type 0} {t : Telling A T} {f : List ℕ} where
     pub stopped_ruled : {r : Refusal} → Fails (field_at κ rs f p) p r → Err r ≡ g
     unfolding read_at of_read
     stopped_ruled x = rw x.refusal (sym (w.owed ∙ rw x.lack))
+
+-- ---- a field without rules, and the end
+
+-- a field without rules of its own
+pub plain : {X : Type 0} (l : Look X) → ◌then◌ l (λ v. has v) ≡ l
+plain (has v) = refl
+plain (lacks z) = refl
+
+module _ {A T N : Type 0} {t : Telling A T} {f : List ℕ} {g : Reading T} where
+  pub past : {ν : N} {κ : Kind} {next : Value κ → Form N A} {p : ℕ} → Walk t f g (field ν κ (λ v. []) next) p → {v : Value κ} {q : ℕ}
+      → (look_at κ f p ≡ has v) × (q ≡ p + width κ) → Walk t f g (next v) q
+  past {κ = κ} {p = p} w s = past_ruled w (plain (look_at κ f p) ∙ s.0, s.1)
+
+  pub finish : {a : A} {q : ℕ} → Walk {N = N} t f g (ret a) q → Ok (t a q) ≡ g
+  unfolding read_at of_read
+  finish w = sym w.owed
+
+  -- the leaf's refusal is handed on
+  module _ {ν : N} {κ : Kind} {next : Value κ → Form N A} {p : ℕ} {S : Type 0} (u : Telling (Value κ) S) {a : Reading S} (n : ℕ) {r : Refusal} where
+    pub stop_ruled : {rs : Value κ → List Rule} → Walk t f g (field ν κ rs next) p → a ≡ of_field u p n (field_at κ rs f p) → a ≡ Err r → Err r ≡ g
+    stop_ruled {rs} w told given = stopped_ruled w (fails u p n (field_at κ rs f p) told given)
+
+    pub stop : Walk t f g (field ν κ (λ v. []) next) p → a ≡ of_field u p n (look_at κ f p) → a ≡ Err r → Err r ≡ g
+    stop w told given =
+        let x = fails u p n (look_at κ f p) told given in
+        stopped_ruled w (record { reason = x.reason; lack = plain (look_at κ f p) ∙ x.lack; refusal = x.refusal })
 
 -- ---- a form that another reader reads
 

@@ -153,3 +153,6 @@ module _ (f : List ℕ) {c : Checked} (told : c ≡ checked_of (outcome (answer 
               ends = (text_stands stands w t.0 t.1).inside;
               is = sym (of_text ∙ ap (λ o. if_text o (start + place_of w)) t.1);
             }
+
+        pub locate_text : has_text w k ≡ true → standing (start + place_of w) (start + place_of w + text_width) ≡ locate_at f start w
+        locate_text e = (located e).is

@@ -33,13 +33,6 @@ const NO_CELL: Cell = Cell {
     optional: false,
 };
 
-// An entry of a table as a place or a width: the tables hold bytes.
-fn wide(b: u8) -> usize
-    ensures { result ≡ b }
-{
-    b as usize
-}
-
 // Field i of the line of A, from 0 behind the letter.
 fn header_cell(i: usize) -> Cell
     ensures { result ≡ cell_at true i }
@@ -48,8 +41,8 @@ fn header_cell(i: usize) -> Cell
         return NO_CELL;
     }
     Cell {
-        place: wide(tables::PLACES_OF_A[i]),
-        width: wide(tables::WIDTHS_OF_A[i]),
+        place: usize::from(tables::PLACES_OF_A[i]),
+        width: usize::from(tables::WIDTHS_OF_A[i]),
         text: i == tables::A6,
         optional: i == tables::A11B,
     }
@@ -75,8 +68,8 @@ fn payment_cell(i: usize) -> Cell
 {
     if i < line::FIELDS_OF_C {
         return Cell {
-            place: wide(tables::PLACES_OF_C[i]),
-            width: wide(tables::WIDTHS_OF_C[i]),
+            place: usize::from(tables::PLACES_OF_C[i]),
+            width: usize::from(tables::WIDTHS_OF_C[i]),
             text: i >= line::NUMBERS_OF_C,
             optional: false,
         };

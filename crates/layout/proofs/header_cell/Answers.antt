@@ -7,4 +7,4 @@ returns-then-i-ge-FIELDS_OF_A c = none_behind_a _ c.if-i-ge-FIELDS_OF_A.true
 
 pub returns : goal.returns
 returns c =
-    entries_of_a c.args.i _ _ c.if-i-ge-FIELDS_OF_A.false c.wide.ensures c.wide-2.ensures
+    entries_of_a c.args.i _ _ c.if-i-ge-FIELDS_OF_A.false c.from.ensures c.from-2.ensures

@@ -5,7 +5,7 @@ use Rattle.layout.proofs.payment_cell.Goals as goal
 
 pub returns-then-i-lt-FIELDS_OF_C : goal.returns-then-i-lt-FIELDS_OF_C
 returns-then-i-lt-FIELDS_OF_C c =
-    entries_of_c c.args.i _ _ c.if-i-lt-FIELDS_OF_C.true c.wide.ensures c.wide-then-i-lt-FIELDS_OF_C.ensures
+    entries_of_c c.args.i _ _ c.if-i-lt-FIELDS_OF_C.true c.from.ensures c.from-then-i-lt-FIELDS_OF_C.ensures
 
 pub returns-then-i-ge-MOST_FIELDS : goal.returns-then-i-ge-MOST_FIELDS
 returns-then-i-ge-MOST_FIELDS c = none_behind_c _ c.if-i-ge-MOST_FIELDS.true
