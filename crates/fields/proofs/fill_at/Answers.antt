@@ -23,7 +23,7 @@ returns-then-not-all_are c =
     let judged = judge_fill a.b a.w (take a.w (drop a.p a.s.now)) (field_length a.s.now a.p a.w whole) in
     let all = rw add-sub_cancel_left at c.all_are.ensures in
     rw c.refuse-then-not-all_are.ensures
-        (leaf_wrong (fixed (replicate a.w a.b)) passings a.s.now a.p a.w _ (length-replicate a.w a.b) whole not_fixed (rw (judged, ← all, not-true c.all_are.result c.if-not-all_are.true-raw)))
+    (leaf_wrong (fixed (replicate a.w a.b)) passings a.s.now a.p a.w _ (length-replicate a.w a.b) whole not_fixed (rw (judged, ← all, not-true c.all_are.result c.if-not-all_are.true-raw)))
 
 pub returns : goal.returns
 returns c =

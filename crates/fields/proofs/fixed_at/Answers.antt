@@ -26,7 +26,7 @@ returns-then-not-same_bytes c =
     let whole = sym c.whole.ensures ∙ not-false _ c.if-not-whole.false-raw in
     let all = rw add-sub_cancel_left at c.same_bytes.ensures in
     rw c.refuse-then-not-same_bytes.ensures
-        (leaf_wrong (fixed a.want.now) passings a.s.now a.p (length a.want.now) _ refl whole not_fixed (rw (← all, not-true c.same_bytes.result c.if-not-same_bytes.true-raw)))
+    (leaf_wrong (fixed a.want.now) passings a.s.now a.p (length a.want.now) _ refl whole not_fixed (rw (← all, not-true c.same_bytes.result c.if-not-same_bytes.true-raw)))
 
 pub returns : goal.returns
 unfolding judge

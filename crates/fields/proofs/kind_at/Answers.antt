@@ -24,7 +24,7 @@ returns-then-not-named c =
     let whole = sym c.whole.ensures ∙ not-false _ c.if-not-whole.false-raw in
     let two = two_bytes a.s.now a.p (ends_inside a.s.now a.p 2 whole) in
     rw c.refuse-then-not-named.ensures
-        (leaf_wrong (choice 2 file_kinds) kinds a.s.now a.p 2 _ refl whole not_fixed (rw (two, judge_kind x y, not-true (named x y) c.if-not-named.true-raw)))
+    (leaf_wrong (choice 2 file_kinds) kinds a.s.now a.p 2 _ refl whole not_fixed (rw (two, judge_kind x y, not-true (named x y) c.if-not-named.true-raw)))
 
 pub returns : goal.returns
 returns c =
