@@ -14,7 +14,8 @@ use layout::length;
 use sums::Sums;
 use verdict::Verdict;
 
-// What a check gives back: the verdict, and what the payments come to; a refused file has no figures.
+// What a check gives back: the verdict, and what the payments come to; a refused file has no figures. It is no `Result`, since the figures of a
+// refused file are told too, 0 each.
 #[derive(Clone, Copy)]
 pub struct Checked {
     pub verdict: Verdict,
@@ -57,6 +58,7 @@ pub fn file_at(s: &[u8], p: usize) -> Reading<FileRead>
     let mut at = start;
     let mut count: u64 = 0;
     let mut sums = sums::NO_SUMS;
+    // Where a payment begins hangs on the one before it, and E alone ends them, so no range tells the places.
     loop {
         let (l, q) = payment::length_at(s, at, count, sums)?;
         if l == length::END_TOLD {

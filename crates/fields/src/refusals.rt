@@ -1,4 +1,5 @@
-// The numbers of refusals, but 20, which the programs alone give; 0 is no refusal.
+// The numbers of refusals, but 20, which the programs alone give; 0 is no refusal. They stand as numbers and not as an enum: the rules of the form
+// bring theirs as numbers, `refuse` answers to any of them, and C is given them.
 
 // The file ends before the field is whole.
 pub const SHORT: u8 = 1;

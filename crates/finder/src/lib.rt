@@ -24,7 +24,7 @@ pub enum Wanted {
     Part(usize),
 }
 
-// Where a stretch of the file begins and ends, or why there is none: then it is empty.
+// Where a stretch of the file begins and ends, or why there is none: then it is empty. The empty stretch is told too, so this is no `Result`.
 #[derive(Clone, Copy)]
 pub struct Spot {
     pub verdict: Verdict,

@@ -95,7 +95,8 @@ fn payment_cell(i: usize) -> Cell
     }
 }
 
-// Field i of the line of A or of a C, from 0 behind the letter.
+// Field i of the line of A or of a C, from 0 behind the letter. Which of the two is a Boolean here and wherever `head` is passed, since the
+// definitions of lines, `cell_at` and `cells_of`, take one.
 pub fn cell_at(head: bool, i: usize) -> Cell
     ensures { result ≡ cell_at head i }
 {

@@ -31,6 +31,7 @@ pub fn reach(s: &[u8], p: usize, z: u8) -> usize
     ensures { result ≡ p + reach z (drop p s.now) }
 {
     let mut i = p;
+    // It goes on by sixteen bytes, up to where fewer are left.
     while fields::whole(s.len(), i, 16) {
         if among_sixteen(s, i, z) {
             break;

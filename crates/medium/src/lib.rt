@@ -8,7 +8,8 @@ ghost use Rattle.medium.specs.Checking.{medium_checked_of, refused_with};
 use fields::Refusal;
 use verdict::Verdict;
 
-// What the check of a medium gives back: the verdict, how many files, and how many payments in all of them; a refused medium has no figures.
+// What the check of a medium gives back: the verdict, how many files, and how many payments in all of them; a refused medium has no figures. They
+// are told too, 0 each, so this is no `Result`.
 #[derive(Clone, Copy)]
 pub struct MediumChecked {
     pub verdict: Verdict,
@@ -33,6 +34,7 @@ pub fn check_medium(s: &[u8]) -> MediumChecked
     let mut p = 0;
     let mut files: u64 = 0;
     let mut payments: u64 = 0;
+    // Where a file begins hangs on the one before it, so no range tells the places.
     loop {
         let file = match checker::file_at(s, p) {
             Ok(file) => file,

@@ -12,7 +12,8 @@ ghost use Rattle.layout.specs.Cells.{letter_of};
 use fields::fixed;
 use verdict::Verdict;
 
-// What a call that writes gives back: the verdict, and how many bytes it wrote; a refused call has written none.
+// What a call that writes gives back: the verdict, and how many bytes it wrote; a refused call has written none. That 0 is told too, so this is no
+// `Result`.
 #[derive(Clone, Copy)]
 pub struct Written {
     pub verdict: Verdict,

@@ -66,7 +66,8 @@ pub fn list(s: &[u8], out: &mut [u8]) -> usize
     printed(listed, out)
 }
 
-// What dtmake prints for the input l: the file of a listing, or its refusal. It gives back the length.
+// What dtmake prints for the input l: the file of a listing, or its refusal. It gives back the length. One function for both would be passed the
+// call, and would have to require what each of the two calls promises; so these lines stand twice.
 pub fn make(l: &[u8], out: &mut [u8]) -> usize
     ensures answer { result ≡ length (make_reply (length out.old) l.now) }
     ensures out { out.new ≡ filled (make_reply (length out.old) l.now) out.old }

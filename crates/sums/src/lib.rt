@@ -1,4 +1,4 @@
-// The three control totals: account numbers, bank codes and cents never meet in one addition.
+// The three control totals: account numbers, bank codes and cents never meet in one addition, so each has an adding function of its own.
 #![tactic(auto)]
 
 ghost use Rattle.std.specs.Prelude.{◌≡◌};

@@ -17,14 +17,14 @@ pub struct View<'a> {
     pub start: usize,
 }
 
-// What making gives back: the view, and the verdict. A refused view has no bytes, and start 0.
+// What making gives back: the view, and the verdict. A refused view has no bytes, and start 0: it is handed out too, so this is no `Result`.
 #[derive(Clone, Copy)]
 pub struct Made<'a> {
     pub view: View<'a>,
     pub verdict: Verdict,
 }
 
-// What a hand-out gives back: the text, and the verdict. A refused text is empty.
+// What a hand-out gives back: the text, and the verdict. A refused text is empty: it is handed out too, so this is no `Result`.
 #[derive(Clone, Copy)]
 pub struct Handed<'a> {
     pub text: &'a [u8],
