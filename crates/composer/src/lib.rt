@@ -201,13 +201,11 @@ fn write_payments(l: &[u8], start: usize, count: u64, out: &mut [u8]) -> usize
 {
     let mut p = start;
     let mut at = layout::length::A;
-    let mut row = 0;
-    while row < count {
+    for _row in 0..count {
         let texts = line::rest_of_line(l, p + layout::line::TEXTS);
         let e = texts.end;
         at = write_payment(&l[p..e], line::AHEAD_OF_TEXTS + texts.fields, out, at);
         p = e + 1;
-        row += 1;
     }
     at
 }

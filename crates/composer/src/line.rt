@@ -36,7 +36,7 @@ pub(crate) struct Rest {
 }
 
 // The line from p on, in a listing where its end is still to come, so that no place is held against the listing's length. Tab and line end are
-// small bytes: one comparison passes nearly all others.
+// small bytes: one comparison passes nearly all others. A `for` over the listing's places with both tests in it took a tenth more of composing.
 pub(crate) fn rest_of_line(l: &[u8], p: usize) -> Rest
     requires { p + reach line_end (drop p l.now) < length l.now }
     ensures end { result.end ≡ p + reach line_end (drop p l.now) }
@@ -49,10 +49,7 @@ pub(crate) fn rest_of_line(l: &[u8], p: usize) -> Rest
             i += 1;
         }
         if l[i] == layout::line::END {
-            return Rest {
-                end: i,
-                fields: fields,
-            };
+            return Rest { end: i, fields };
         }
         if l[i] == layout::line::TAB {
             fields += 1;
