@@ -15,17 +15,6 @@ use Rattle.composer.proofs.header_line.Goals as goal
 pub returns-then-not-formed : goal.returns-then-not-formed
 returns-then-not-formed c = header_denied _ c.refuse.ensures (sym c.formed.ensures ∙ not-true _ c.if-not-formed.true-raw)
 
-pub lay_header-requires : goal.lay_header-requires
-lay_header-requires c =
-    let formed : FormedLine true fields_of_header_line c.args.x.now = (omega arith, (omega arith, sym c.formed.ensures ∙ not-false _ c.if-not-formed.false-raw)) in
-    (formed, refl)
-
-pub refused_in-requires : goal.refused_in-requires
-refused_in-requires c =
-    let formed : FormedLine true fields_of_header_line c.args.x.now = (omega arith, (omega arith, sym c.formed.ensures ∙ not-false _ c.if-not-formed.false-raw)) in
-    let l = c.well_formed.0.1 in
-    (formed, omega arith)
-
 pub returns-in-Err : goal.returns-in-Err
 returns-in-Err c =
     let formed : FormedLine true fields_of_header_line c.args.x.now = (omega arith, (omega arith, sym c.formed.ensures ∙ not-false _ c.if-not-formed.false-raw)) in
