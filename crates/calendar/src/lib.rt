@@ -13,7 +13,7 @@ pub struct Day {
     pub year: u16,
 }
 
-// What a date of execution can be.
+// What a date of execution can be. In order is one case of four, as in the rules' definition, and no content beside three errors.
 #[derive(Clone, Copy)]
 pub enum DateCase {
     InOrder,

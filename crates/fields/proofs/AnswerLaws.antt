@@ -1,5 +1,5 @@
 -- What the answers of leaves and readers tell: a number with the place behind it, a place alone, a kind of file, blanks or a number.
-use Rattle.std.proofs.Common.{◌≡◌, ℕ, List, Option, Some, None, Ok, Err, refl, sym, ap, ap₂, ◌∙◌}
+use Rattle.std.proofs.Common.{◌≡◌, ℕ, List, Option, Some, None, Ok, Err, sym, ap, ap₂, ◌∙◌}
 use Rattle.std.proofs.Math.Option as math
 use Rattle.form.specs.Reader.{Look, has}
 use Rattle.form.specs.Place.{Read, done}

@@ -2,7 +2,7 @@
 -- Each way out of a leaf has its law, by opening the reader at a place: not whole, the wrong bytes, the right ones (`leaf_short`, `leaf_wrong`,
 -- `leaf_right`), and with rules refused by its bytes, a rule broken, all kept (`field_fails`, `field_broken`, `field_holds`). Where the code
 -- tests that every byte is a blank or a zero, the form compares with a row of them: the two agree by induction over the bytes (`same_fill`).
-use Rattle.std.proofs.Common.{◌≡◌, ℕ, ◌+◌, ◌≤◌, Bool, true, false, not, Ok, Err, eqb, leb, List, [], ◌∷◌, length, take, drop, replicate, sym, refl, ◌∙◌, arith, length-drop, length-take-le, eq-eqb, ne_eqb, eqb-true, leb-false, leb-true}
+use Rattle.std.proofs.Common.{◌≡◌, ℕ, ◌+◌, ◌≤◌, Bool, true, false, Ok, Err, eqb, leb, List, [], ◌∷◌, length, take, drop, replicate, sym, refl, arith, length-drop, length-take-le, eq-eqb, ne_eqb, eqb-true, leb-false, leb-true}
 use borrow.Author.Tests.{eqb-false}
 use Rattle.form.specs.Kind.{Kind, fixed, digits, maybe, Value, width, every, same}
 use Rattle.form.specs.Form.{Rule}

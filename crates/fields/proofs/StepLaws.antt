@@ -2,7 +2,7 @@
 -- A reader goes on behind a content and hands a refusal on, as `let .. else` and `?` do; that is `onward`. What a form gives from a place on is
 -- onward from the answer for its first field (`step`, `step_ruled`), whatever of the value the answer keeps, if what follows needs no more. A
 -- stretch of a form has one law by these, an equation with a step for each field, and the check goes along it where a reader's code does.
-use Rattle.std.proofs.Common.{◌≡◌, ℕ, ◌+◌, List, [], Ok, Err, sym, refl, ap, ◌∙◌}
+use Rattle.std.proofs.Common.{◌≡◌, ℕ, ◌+◌, List, [], Ok, Err, refl, ap, ◌∙◌}
 use Rattle.form.specs.Kind.{Kind, Value, width}
 use Rattle.form.specs.Form.{Rule, Form, ret, field, ◌>>=◌}
 use Rattle.form.specs.Reader.{Look, has, lacks}

@@ -5,7 +5,7 @@
 -- the refusal that is owed (`stop`, `stop_ruled`); at the form's end the answer is given (`finish`). A form that another reader reads takes the
 -- walk on in the same two ways, because forms one after another are read one after another (`read_bind`). Loops go by walks; readers of a known row
 -- of fields go by the steps of `StepLaws`.
-use Rattle.std.proofs.Common.{◌≡◌, ℕ, ◌+◌, List, [], Ok, Err, sym, refl, ap, ◌∙◌, arith}
+use Rattle.std.proofs.Common.{◌≡◌, ℕ, ◌+◌, List, [], Ok, Err, sym, refl, ap, ◌∙◌}
 use Rattle.form.specs.Kind.{Kind, Value, width}
 use Rattle.form.specs.Form.{Rule, Form, ret, field, ◌>>=◌}
 use Rattle.form.specs.Reader.{Reason, Look, has, lacks, ◌then◌}
@@ -13,7 +13,7 @@ use Rattle.form.specs.Place.{look_at, field_at, Read, done, halt, read_at, and_t
 use Rattle.form.specs.Reader as reader
 use Rattle.form.proofs.PlaceLaws.{read_bind}
 use Rattle.fields.specs.declared.Refusal.{Refusal}
-use Rattle.fields.specs.Answers.{refusal_at, Reading, why, Telling, of_field, of_read}
+use Rattle.fields.specs.Answers.{refusal_at, Reading, Telling, of_field, of_read}
 
 -- ---- what an answer tells of a field
 

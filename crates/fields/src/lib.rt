@@ -17,7 +17,8 @@ use verdict::Verdict;
 pub mod fixed;
 pub mod refusals;
 
-// Why a file or a listing is refused: the number and the place.
+// Why a file or a listing is refused: the number and the place. It is no `Verdict`, which may accept; the theorems of both speak of their own type
+// (`refusal_of`, `refusing`).
 #[derive(Clone, Copy)]
 pub struct Refusal {
     pub number: u8,
@@ -30,9 +31,10 @@ pub const NO_REFUSAL: Refusal = Refusal {
 };
 
 // What reading gives: a content, mostly with the place behind it, or a refusal. Where no value is kept the place alone is the content.
+// A reader is given the file and a place in it, and not the rest of the file: a refusal names its place in the file.
 pub type Reading<T> = Result<T, Refusal>;
 
-// What A3 tells: credits or debits, of a customer or of a bank.
+// What A3 tells: credits or debits, of a customer or of a bank. They are two facts, since a rule asks for one of them.
 #[derive(Clone, Copy)]
 pub struct FileKind {
     pub credit: bool,
@@ -55,7 +57,8 @@ impl From<Refusal> for Verdict {
     }
 }
 
-// Why reading refuses, for code that has taken its answer apart and found no content; 0 at 0 where it does not.
+// Why reading refuses, for code that has taken its answer apart and found no content; 0 at 0 where it does not. Each record reader takes a field's
+// answer apart by `let .. else`, which a rule of the project asks for.
 pub fn why<T: Copy>(read: Reading<T>) -> Refusal
     ensures { result ≡ why read }
 {
@@ -76,7 +79,7 @@ pub fn whole(len: usize, p: usize, w: usize) -> bool
     p <= len - w
 }
 
-// Whether f and want are the same bytes.
+// Whether f and want are the same bytes. All of them are compared, as in `all_are`.
 #[inline(always)]
 fn same_bytes(f: &[u8], want: &[u8]) -> bool
     requires { length f.now ≡ length want.now }
@@ -110,7 +113,7 @@ fn digits_of(f: &[u8]) -> Option<u64>
 {
     let mut v: u64 = 0;
     for &b in f {
-        let d = std::num::wrapping_sub_u8(b, b'0');
+        let d = b.wrapping_sub(b'0');
         if d > 9 {
             return None;
         }

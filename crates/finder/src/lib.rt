@@ -132,7 +132,7 @@ pub fn locate(s: &[u8], start: usize, w: Wanted) -> Spot
     let from = start + text_place(w);
     Spot {
         verdict: verdict::ACCEPTED,
-        from: from,
+        from,
         to: from + width::TEXT,
     }
 }

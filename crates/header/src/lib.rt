@@ -154,6 +154,7 @@ pub fn header_at(s: &[u8], p: usize) -> Reading<(Header, usize)>
     let Ok((order, q)) = b else {
         return Err(fields::why(b));
     };
+    // Header's fields are public and told in one row (`headers`), so the two stretches are not kept as two structs in it.
     Ok((
         Header {
             kind: opening.kind,

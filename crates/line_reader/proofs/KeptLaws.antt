@@ -5,7 +5,7 @@
 -- and so it has passed the tests that the code made (`looked` and `keeps` of FieldLaws). A number that was refused or a test that failed
 -- therefore leaves none (`no_number`, `receiver_tests`, `amount_tests`).
 use Prim.Native.Nat.{ℕ, ◌+◌}
-use mathlib.Core.Path.{◌≡◌, refl, sym, ◌∙◌, subst}
+use mathlib.Core.Path.{◌≡◌, sym, ◌∙◌, subst}
 use mathlib.Core.Bool.{Bool, true, false, ◌&&◌, not}
 use mathlib.Core.List.{List}
 use Rattle.std.specs.Prelude.{Err}

@@ -146,13 +146,15 @@ impl Pen<'_> {
     }
 }
 
-// The length of the listing of an accepted file of n payments.
+// The length of the listing of an accepted file of n payments. That it is one is a named fact of three steps of `list`, and no type: it holds for what
+// `check` has just told of these very bytes.
 fn listing_length(s: &[u8], n: usize) -> usize
     requires { AcceptedFile n s.now }
     ensures { result ≡ length (written (listed (answer s.now))) }
 {
     let mut total = line_length(true, line::FIELDS_OF_A, s, 0);
     let mut p = length::A;
+    // Where the next payment stands hangs on C18 of this one: the range counts them.
     for _row in 0..n {
         let k = parts::count_at(s, p);
         total += line_length(false, line::FIELDS_OF_C + 2 * k, s, p);
@@ -182,6 +184,7 @@ fn print_listing(s: &[u8], n: usize, out: &mut [u8]) -> usize
     let mut pen = Pen { out, at: 0 };
     pen.put_header(s);
     let mut p = length::A;
+    // Where the next payment stands hangs on C18 of this one: the range counts them.
     for _row in 0..n {
         let k = parts::count_at(s, p);
         pen.put_payment(k, s, p);
@@ -206,6 +209,6 @@ pub fn list(s: &[u8], out: &mut [u8]) -> Written
     let length = print_listing(s, n, out);
     Written {
         verdict: verdict::ACCEPTED,
-        length: length,
+        length,
     }
 }

@@ -31,7 +31,7 @@ fn known_number(s: &[u8], p: usize, w: usize) -> u64
 {
     let mut v: u64 = 0;
     for digit in &s[p..p + w] {
-        v = v * 10 + (*digit as u64 - b'0' as u64);
+        v = v * 10 + u64::from(*digit - b'0');
     }
     v
 }

@@ -38,7 +38,7 @@ fn not_zero(v: u64) -> bool
     v != 0
 }
 
-// The key is one of this kind of file.
+// The key is one of this kind of file. Keys and supplements are no enums: the tests answer for every number.
 pub fn key_ok(kind: FileKind, v: u64) -> bool
     ensures { result ≡ key_ok (letters_of kind) v }
 {
@@ -92,7 +92,8 @@ fn account_at(s: &[u8], p: usize) -> Reading<(u64, usize)>
     tested_at(s, p, width::C11, refusals::CONDITION, not_zero)
 }
 
-// C4, added to the sum of bank codes.
+// C4, added to the sum of bank codes. C4, C5 and C12 have a function each: their sums are three types with an `add` each, as a rule of the project
+// asks, and what is added keeps another rule in C12.
 #[tactic(auto, using(crate::proofs::Steps::c4_steps))]
 #[inline(always)]
 fn bank_code_into(s: &[u8], p: usize, sum: BankCodeSum) -> Reading<(BankCodeSum, usize)>

@@ -17,6 +17,7 @@ pub fn read_full<R: Read>(reader: &mut R, buf: &mut [u8]) -> io::Result<usize>
     ensures end { IfOk result (λ n. n < length buf.new → IsAtEnd (R.remaining reader.new)) }
 {
     let mut done = 0;
+    // A step goes on by as much as the reader gave, which no range tells.
     while done < buf.len() {
         let n = reader.read(&mut buf[done..])?;
         if n == 0 {

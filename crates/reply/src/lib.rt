@@ -24,7 +24,7 @@ fn digits_in(v: u64) -> usize
     1 + digits_in(v / 10)
 }
 
-// The line of a refusal. It gives back how many bytes it wrote: all, or none where there is no room for all.
+// The line of a refusal. It gives back how many bytes it wrote: all, or none where there is no room for all (`fitting`).
 #[tactic(auto, using(crate::proofs::LineLaws::piece_by_piece))]
 fn refusal_line(number: u8, place: usize, out: &mut [u8]) -> usize
     ensures answer { result ≡ length (fitting (length out.old) (refusal_line number place)) }

@@ -1,4 +1,5 @@
-// The three control totals: account numbers, bank codes and cents never meet in one addition, so each has an adding function of its own.
+// The three control totals: account numbers, bank codes and cents never meet in one addition, so each has an adding function of its own: a rule of
+// the project.
 #![tactic(auto)]
 
 ghost use Rattle.std.specs.Prelude.{◌≡◌};
@@ -19,6 +20,8 @@ pub struct BankCodeSum(pub u64);
 #[derive(Clone, Copy)]
 pub struct CentSum(pub u64);
 
+// What payments come to. Their count stands beside and not in it: a payment's readers take the sums alone and give back new ones, and who counts
+// them is told the two apart, as in E.
 #[derive(Clone, Copy)]
 pub struct Sums {
     pub accounts: AccountSum,

@@ -1,5 +1,5 @@
 -- The record E as the steps in which the code reads it: a leaf's answer for each field, and what follows it.
-use Rattle.std.proofs.Common.{◌≡◌, ℕ, ◌+◌, List, refl}
+use Rattle.std.proofs.Common.{◌≡◌, ℕ, ◌+◌, List}
 use Rattle.form.specs.Kind.{fixed, digits, blanks}
 use Rattle.form.specs.Place.{look_at, field_at, read_at}
 use Rattle.document.specs.Signs.{ascii, zeros}

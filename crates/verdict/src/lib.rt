@@ -4,6 +4,7 @@
 ghost use Rattle.std.specs.Prelude.{◌≡◌};
 ghost use Rattle.verdict.specs.Verdicts.{refusing};
 
+// It is no `Result`: C is given number and place of every call, and 0 is the number of an accepted one.
 #[derive(Clone, Copy)]
 pub struct Verdict {
     pub number: u8,
@@ -19,8 +20,5 @@ pub const ACCEPTED: Verdict = Verdict {
 pub fn refuse(number: u8, place: usize) -> Verdict
     ensures { result ≡ refusing number place }
 {
-    Verdict {
-        number: number,
-        place: place,
-    }
+    Verdict { number, place }
 }

@@ -1,6 +1,6 @@
 -- composer::header_line meets its contract: the line's form, then its record, laid out and read.
 use native.Mathlib.Omega.{arith}
-use mathlib.Core.Path.{refl, sym, ap, ◌∙◌}
+use mathlib.Core.Path.{sym, ap, ◌∙◌}
 use mathlib.Core.Bool.{true}
 use borrow.Author.Tests.{not-false, not-true}
 use Rattle.form.specs.Place.{read_at}

@@ -3,17 +3,16 @@
 -- are gathered on the way: k is the number of parts that the line tells (`parts`), the line has its form behind the test (`formed`), and what
 -- was read is the record laid out from the line (`read`). The last is the long one: a front part of the lent space is lent on to be written and
 -- then to be read, so its length has to be known at both (`within`, `laid_long`).
-use Prim.Native.Nat.{ℕ, ◌*◌, ◌≤◌, min}
+use Prim.Native.Nat.{ℕ, ◌≤◌}
 use native.Mathlib.Omega.{arith}
 use mathlib.Core.Path.{◌≡◌, sym, ap, ◌∙◌}
 use mathlib.Core.Bool.{false}
 use mathlib.Core.List.{List}
-use lib.ListN.{length, take, drop}
+use lib.ListN.{length, drop}
 use lib.Seq.{length-take-le, take_at}
 use borrow.Author.Tests.{not-false, not-true}
 use Rattle.form.specs.Place.{read_at}
 use Rattle.document.specs.Marks.{most_parts}
-use Rattle.diskette.specs.Writing.{section}
 use Rattle.fields.specs.Answers.{Reading, of_read, letters_of}
 use Rattle.sums.specs.declared.Sums.{Sums}
 use Rattle.sums.specs.Sums.{totals_of}
@@ -22,7 +21,7 @@ use Rattle.listing.specs.Lines.{tab, split}
 use Rattle.listing.specs.Records.{record_c, fields_with, parts_of, lay}
 use Rattle.listing.specs.Composing.{whole_payment}
 use Rattle.composer.specs.Telling.{FormedLine, behind_letter}
-use Rattle.composer.proofs.ToldLaws.{begins_inside, few, longest, payment_denied, payment_refuses, payment_accepts}
+use Rattle.composer.proofs.ToldLaws.{few, longest, payment_denied, payment_refuses, payment_accepts}
 use Rattle.composer.proofs.payment_line.Goals as goal
 use Rattle.composer.proofs.payment_line.Goals.{Else-not-formed, After-bytes_of-bytes, After-lay_payment, After-payment_record}
 

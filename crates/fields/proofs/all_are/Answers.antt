@@ -1,4 +1,4 @@
-use Rattle.std.proofs.Common.{eqb, refl}
+use Rattle.std.proofs.Common.{eqb}
 use Rattle.fields.proofs.StretchLaws.{flag_more, flag_end, every_more, every_end}
 use Rattle.fields.proofs.all_are.Goals as goal
 

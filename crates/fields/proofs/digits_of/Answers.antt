@@ -8,8 +8,8 @@ loop-b-init c = spelt_none _
 pub returns-then-d-gt9 : goal.returns-then-d-gt9
 returns-then-d-gt9 c =
     let l = c.loop-b in
-    let d = c.wrapping_sub_u8-d in
-    sym (spelt_not c.args.f.now l.b-index l.v d.result l.invariant (omega arith) (omega arith) d.ensures.value c.if-d-gt9.true)
+    let b = c.type_inv.f l.b-index in
+    sym (spelt_not c.args.f.now l.b-index l.v _ l.invariant (omega arith) (omega arith) (omega (arith, b)) c.if-d-gt9.true)
 
 pub overflow_mul-v : goal.overflow_mul-v
 overflow_mul-v c = let l = c.loop-b in omega (arith, spelt_room _ l.b-index l.v l.invariant (omega arith))
@@ -20,8 +20,8 @@ overflow_add-v c = let l = c.loop-b in omega (arith, spelt_room _ l.b-index l.v 
 pub loop-b-preserved : goal.loop-b-preserved
 loop-b-preserved c =
     let l = c.loop-b in
-    let d = c.wrapping_sub_u8-d in
-    rw c.from.ensures (spelt_more _ l.b-index l.v d.result l.invariant (omega arith) (omega arith) d.ensures.value c.if-d-gt9.false)
+    let b = c.type_inv.f l.b-index in
+    rw c.from.ensures (spelt_more _ l.b-index l.v _ l.invariant (omega arith) (omega arith) (omega (arith, b)) c.if-d-gt9.false)
 
 pub returns : goal.returns
 returns c = let l = c.loop-b in sym (spelt_all c.args.f.now l.b-index l.v l.invariant (omega arith))

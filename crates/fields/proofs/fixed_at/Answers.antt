@@ -1,12 +1,12 @@
 -- fields::fixed_at meets its contract: whole, then the same bytes.
-use Rattle.std.proofs.Common.{◌+◌, length, refl, sym, ◌∙◌, arith}
+use Rattle.std.proofs.Common.{length, refl, sym, ◌∙◌}
 use native.Mathlib.Nat.{add-sub_cancel_left}
 use borrow.Author.Tests.{not-false, not-true}
 use Rattle.form.specs.Kind.{fixed}
 use Rattle.form.specs.Reader.{judge, not_fixed}
 use Rattle.verdict.specs.Verdicts.{number_of}
 use Rattle.fields.specs.Answers.{passings}
-use Rattle.fields.proofs.LeafLaws.{ends_inside, field_length, leaf_right, leaf_short, leaf_wrong}
+use Rattle.fields.proofs.LeafLaws.{field_length, leaf_right, leaf_short, leaf_wrong}
 use Rattle.fields.proofs.fixed_at.Goals as goal
 
 pub returns-then-not-whole : goal.returns-then-not-whole

@@ -1,5 +1,5 @@
 -- fields::name_at meets its contract: a text, then its rule, that not all of it is blank.
-use Rattle.std.proofs.Common.{◌+◌, refl, arith}
+use Rattle.std.proofs.Common.{refl, arith}
 use native.Mathlib.Nat.{add-sub_cancel_left}
 use Rattle.std.proofs.lemmas.Result.{err_from_is_err_and}
 use Rattle.diskette.specs.Fields.{text27, rules_of_names}

@@ -1,5 +1,5 @@
 -- fields::number_in meets its contract: what the bytes spell, or the refusal.
-use Rattle.std.proofs.Common.{Bool, true, false, cond, Some, None, Ok, Err, ◌≡◌, ◌∙◌, ℕ, refl}
+use Rattle.std.proofs.Common.{Bool, true, false, cond, Some, None, Ok, Err, ◌≡◌, ℕ, refl}
 use Rattle.std.specs.Option.{ok_or}
 use Rattle.form.specs.Kind.{every, digit}
 use Rattle.fields.specs.declared.Refusal.{Refusal}

@@ -5,7 +5,7 @@ use borrow.Author.Tests.{not-false, not-true}
 use Rattle.verdict.specs.Verdicts.{number_of}
 use Rattle.diskette.specs.Fields.{text27}
 use Rattle.fields.specs.Answers.{of_field, passings}
-use Rattle.fields.proofs.LeafLaws.{field_length, leaf_short, text_has, text_not}
+use Rattle.fields.proofs.LeafLaws.{leaf_short, text_has, text_not}
 use Rattle.fields.proofs.text_at.Goals as goal
 
 pub returns-then-not-whole : goal.returns-then-not-whole
