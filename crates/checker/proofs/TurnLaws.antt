@@ -1,7 +1,7 @@
 -- One turn of the loop over payments, in the terms of the code: how it begins, how it goes on, and how it ends.
 use Prim.Native.Nat.{ℕ, suc, ◌+◌, ◌-◌, ◌≤◌, ◌<◌}
 use native.Mathlib.Omega.{arith}
-use mathlib.Core.Path.{◌≡◌, refl, sym, ◌∙◌, subst}
+use mathlib.Core.Path.{◌≡◌, refl, sym, ap, ◌∙◌, subst}
 use Rattle.std.specs.Prelude.{Ok, Err}
 use mathlib.Core.List.{List}
 use Rattle.form.specs.Kind.{digits}

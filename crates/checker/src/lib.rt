@@ -31,13 +31,16 @@ pub struct FileRead {
     pub end: usize,
 }
 
-fn refused(why: Refusal) -> Checked
-    ensures { result ≡ refused_with why }
-{
-    Checked {
-        verdict: Verdict::from(why),
-        count: 0,
-        sums: sums::NO_SUMS,
+// What is given back of a file that is refused so.
+impl From<Refusal> for Checked {
+    ghost from_gives = { λ why v. v ≡ refused_with why };
+
+    fn from(why: Refusal) -> Checked {
+        Checked {
+            verdict: Verdict::from(why),
+            count: 0,
+            sums: sums::NO_SUMS,
+        }
     }
 }
 
@@ -77,10 +80,10 @@ pub fn check(s: &[u8]) -> Checked
 {
     let file = match file_at(s, 0) {
         Ok(file) => file,
-        Err(why) => return refused(why),
+        Err(why) => return Checked::from(why),
     };
     if s.len() > file.end {
-        return refused(fields::refuse(refusals::SURPLUS, file.end));
+        return Checked::from(fields::refuse(refusals::SURPLUS, file.end));
     }
     Checked {
         verdict: verdict::ACCEPTED,

@@ -7,7 +7,7 @@ use Prim.Native.Nat.{ℕ, ◌+◌, ◌-◌, ◌*◌, ◌/◌, ◌≤◌, min}
 use native.Mathlib.Omega.{arith}
 use mathlib.Core.Path.{◌≡◌, refl, sym, ap, ap₂, ◌∙◌}
 use mathlib.Core.Bool.{Bool, true, false, cond}
-use mathlib.Core.List.{List, [], ◌∷◌, ◌++◌}
+use mathlib.Core.List.{List, [], ◌∷◌}
 use Rattle.std.specs.Prelude.{Ok, Err}
 use lib.ListN.{length, take, length-append}
 use lib.Dec.{leb}
@@ -107,10 +107,6 @@ longest k = by (leb (min k most_parts) 2)
 
 pub min_is : (k : ℕ) → k ≤ most_parts → min k most_parts ≡ k
 min_is k h = omega arith
-
--- what stands first lies inside
-pub begins_inside : (n : ℕ) (new rest : List ℕ) → length new ≡ n → n ≤ length (new ++ rest)
-begins_inside n new rest e = omega (arith, length-append new rest)
 
 -- k is the number of parts that the line tells
 module _ (letters : List ℕ) (t : Totals) (sums : Sums) (p : ℕ) (ts : List (List ℕ)) {k : ℕ} (parts : k ≡ parts_of (length ts)) where

@@ -4,7 +4,6 @@
 ghost use Rattle.std.specs.Prelude.{◌≡◌, ◌+◌, ◌*◌, ◌≤◌, ◌<◌, ◌^◌, length, drop};
 ghost use Rattle.form.specs.Place.{read_at};
 ghost use Rattle.verdict.specs.Lent.{filled};
-ghost use Rattle.document.specs.Marks.{most_parts};
 ghost use Rattle.document.specs.Values.{no_totals};
 ghost use Rattle.diskette.specs.Writing.{section, write_payments};
 ghost use Rattle.fields.specs.Answers.{refusal_of, of_read, letters_of};
@@ -41,6 +40,7 @@ struct Listed {
 }
 
 // The refusal of a field of the record of a line that begins at p: the field's own place in the line.
+// No struct carries (head, n, x) with its form: lay_header and lay_payment would ask which head and n it has, where they now ask for the form.
 fn refused_in(head: bool, n: usize, x: &[u8], p: usize, why: Refusal) -> Refusal
     requires { FormedLine head n x.now × (p + length x.now + 1 < 2 ^ 64) }
     ensures { result ≡ refusal_of why.number (p + place_in head n (split tab x.now) why.place) }
@@ -68,14 +68,7 @@ fn header_line(x: &[u8]) -> Reading<FileKind>
 fn parts_of(fields: usize) -> usize
     ensures { result ≡ parts_of fields }
 {
-    if fields < FEWEST_FIELDS {
-        return 0;
-    }
-    let k = (fields - FEWEST_FIELDS) / 2;
-    if k > layout::length::MOST_PARTS {
-        return layout::length::MOST_PARTS;
-    }
-    k
+    (fields.saturating_sub(FEWEST_FIELDS) / 2).min(layout::length::MOST_PARTS)
 }
 
 // The record C with its length, after so many payments that come to these sums: whether it may begin, and its fields.
@@ -94,9 +87,9 @@ fn payment_line(
     kind: FileKind,
     count: u64,
     sums: Sums,
-    space: &mut [u8],
+    space: &mut [u8; layout::length::LONGEST_C],
 ) -> Reading<(Sums, usize)>
-    requires { (p + length x.now + 1 < 2 ^ 64) × (length space.old ≡ 128 * section most_parts) }
+    requires { p + length x.now + 1 < 2 ^ 64 }
     ensures { result ≡ payment_told sums (compose_payment (letters_of kind) (totals_of count sums) p (split tab x.now)) }
 {
     let k = parts_of(line::count_fields(x));
@@ -120,9 +113,9 @@ fn line_at(
     kind: FileKind,
     count: u64,
     sums: Sums,
-    space: &mut [u8],
+    space: &mut [u8; layout::length::LONGEST_C],
 ) -> Reading<Option<SeenLine>>
-    requires { (p ≤ length l.now) × (length space.old ≡ 128 * section most_parts) }
+    requires { p ≤ length l.now }
     ensures { LineTold l.now p (letters_of kind) (totals_of count sums) sums result }
 {
     let seen = line_reader::read_line(l, p, kind, count, sums);
@@ -142,8 +135,13 @@ fn line_at(
 }
 
 // The payments' lines from `start` on, in a file of this kind. Records are laid out in `space`.
-fn read_payments(l: &[u8], start: usize, kind: FileKind, space: &mut [u8]) -> Reading<Listed>
-    requires { (start ≤ length l.now) × (length space.old ≡ 128 * section most_parts) }
+fn read_payments(
+    l: &[u8],
+    start: usize,
+    kind: FileKind,
+    space: &mut [u8; layout::length::LONGEST_C],
+) -> Reading<Listed>
+    requires { start ≤ length l.now }
     ensures { result ≡ payments_told no_totals 0 (compose_payments (letters_of kind) no_totals start (split line_end (drop start l.now))) }
 {
     let mut p = start;
@@ -201,6 +199,7 @@ fn write_payments(l: &[u8], start: usize, count: u64, out: &mut [u8]) -> usize
 {
     let mut p = start;
     let mut at = layout::length::A;
+    // Where a line begins, and where its record goes, hangs on the lines before it, so the range counts the payments alone.
     for _row in 0..count {
         let texts = line::rest_of_line(l, p + layout::line::TEXTS);
         let e = texts.end;

@@ -112,6 +112,7 @@ pub(crate) fn formed(head: bool, n: usize, x: &[u8]) -> bool
 }
 
 // Where in a line of the form of A, or of a C, the field stands that stands at place p of its record; 0 where the line does not tell that field.
+// That is no Option, since `place_in` of specs/Telling.antt answers 0 there, and the refusal is then told at the line's begin.
 pub(crate) fn place_of(head: bool, n: usize, x: &[u8], p: usize) -> usize
     requires { FormedLine head n x.now }
     ensures { result ≡ place_in head n (split tab x.now) p }

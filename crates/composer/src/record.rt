@@ -16,7 +16,7 @@ use fields::fixed;
 use layout::{at, line, width};
 use sums::Sums;
 
-// What A has of its own; the rest is blank.
+// What A has of its own; the rest is blank. Here, in lay_header and in put_end no array type has the length: write_file lends slices of the output.
 fn own_of_a(out: &mut [u8])
     requires { length out.old ≡ 128 }
     ensures { out.new ≡ lay record_a [] }

@@ -33,13 +33,15 @@ pub struct Spot {
 }
 
 // The spot of a refusal: the verdict, and no stretch.
-fn refused(v: Verdict) -> Spot
-    ensures { result ≡ nowhere v }
-{
-    Spot {
-        verdict: v,
-        from: 0,
-        to: 0,
+impl From<Verdict> for Spot {
+    ghost from_gives = { λ v spot. spot ≡ nowhere v };
+
+    fn from(v: Verdict) -> Spot {
+        Spot {
+            verdict: v,
+            from: 0,
+            to: 0,
+        }
     }
 }
 
@@ -101,10 +103,10 @@ pub fn find(s: &[u8], n: usize) -> Spot
 {
     let checked = checker::check(s);
     if checked.verdict.number != 0 {
-        return refused(checked.verdict);
+        return Spot::from(checked.verdict);
     }
     if n >= checked.count as usize {
-        return refused(verdict::refuse(refusals::NO_SUCH, 0));
+        return Spot::from(verdict::refuse(refusals::NO_SUCH, 0));
     }
     let start = start_of(s, n);
     Spot {
@@ -120,14 +122,14 @@ pub fn locate(s: &[u8], start: usize, w: Wanted) -> Spot
 {
     let checked = checker::check(s);
     if checked.verdict.number != 0 {
-        return refused(checked.verdict);
+        return Spot::from(checked.verdict);
     }
     if !begins(s, checked.count as usize, start) {
-        return refused(verdict::refuse(refusals::NO_SUCH, 0));
+        return Spot::from(verdict::refuse(refusals::NO_SUCH, 0));
     }
     let k = parts::count_at(s, start);
     if !has_text(w, k) {
-        return refused(verdict::refuse(refusals::NO_SUCH, 0));
+        return Spot::from(verdict::refuse(refusals::NO_SUCH, 0));
     }
     let from = start + text_place(w);
     Spot {

@@ -17,6 +17,7 @@ use Rattle.form.proofs.BelowLaws.{below, agree}
 use Rattle.diskette.specs.Writing.{to_section_end, to_next_part}
 use Rattle.listing.specs.Records.{record_parts, record_c, cells}
 use Rattle.layout.specs.declared.Cell.{Cell}
+use Rattle.layout.specs.declared.tables.Span.{Span}
 use Rattle.layout.specs.Cells.{letter_of, record_of, cell_of, cells_of, cell_at}
 
 -- the letter of a line is one byte
@@ -30,14 +31,22 @@ beyond [] i h = refl
 beyond (x ∷ xs) zero h = absurd (omega arith)
 beyond (x ∷ xs) (suc i) h = beyond xs i (omega arith)
 
+-- a row of the code's tables: a field's place and width
+abbrev span : ℕ → ℕ → Span
+span p w = record { place = p; width = w }
+
 -- ---- A
 
--- field i of the line of A by the code's tables
+-- row i of the code's table of A
+abbrev span_of_a : ℕ → Span
+span_of_a i = get_or (span 5 2 ∷ span 7 8 ∷ span 15 8 ∷ span 23 27 ∷ span 50 6 ∷ span 60 10 ∷ span 70 10 ∷ span 95 8 ∷ []) i (span 0 0)
+
+-- field i of the line of A by the code's table
 abbrev pub field_of_a : ℕ → Cell
 field_of_a i =
     record {
-      place = get_or (5 ∷ 7 ∷ 15 ∷ 23 ∷ 50 ∷ 60 ∷ 70 ∷ 95 ∷ []) i 0;
-      width = get_or (2 ∷ 8 ∷ 8 ∷ 27 ∷ 6 ∷ 10 ∷ 10 ∷ 8 ∷ []) i 0;
+      place = (span_of_a i).place;
+      width = (span_of_a i).width;
       text = eqb i 3;
       optional = eqb i 7;
     }
@@ -46,7 +55,7 @@ pub fields_of_a_lem : (i : ℕ) → i < 8 → field_of_a i ≡ cell_at true i
 unfolding below
 fields_of_a_lem i h = agree field_of_a (cell_at true) 8 i refl h
 
--- what stands in the code's tables for field i of A is that field
+-- what stands in the code's table for field i of A is that field
 pub entries_of_a : (i p w : ℕ) → i < 8 → p ≡ (field_of_a i).place → w ≡ (field_of_a i).width
     → record { place = p; width = w; text = eqb i 3; optional = eqb i 7 } ≡ cell_at true i
 entries_of_a i p w h e f = ap₂ (λ (x y : ℕ). record { place = x; width = y; text = eqb i 3; optional = eqb i 7 }) e f ∙ fields_of_a_lem i h
@@ -56,12 +65,19 @@ none_behind_a i h = sym (ap cell_of (beyond (cells 0 (record_of true 15)) i h))
 
 -- ---- C
 
--- field i of the line of a C, one of the first twelve, by the code's tables
+-- row i of the code's table of C
+abbrev span_of_c : ℕ → Span
+span_of_c i =
+    get_or
+    (span 5 8 ∷ span 13 8 ∷ span 21 10 ∷ span 31 13 ∷ span 44 2 ∷ span 46 3 ∷ span 61 8 ∷ span 69 10 ∷ span 79 11 ∷ span 93 27 ∷ span 128 27 ∷ span 155 27 ∷ [])
+    i (span 0 0)
+
+-- field i of the line of a C, one of the first twelve, by the code's table
 abbrev pub field_of_c : ℕ → Cell
 field_of_c i =
     record {
-      place = get_or (5 ∷ 13 ∷ 21 ∷ 31 ∷ 44 ∷ 46 ∷ 61 ∷ 69 ∷ 79 ∷ 93 ∷ 128 ∷ 155 ∷ []) i 0;
-      width = get_or (8 ∷ 8 ∷ 10 ∷ 13 ∷ 2 ∷ 3 ∷ 8 ∷ 10 ∷ 11 ∷ 27 ∷ 27 ∷ 27 ∷ []) i 0;
+      place = (span_of_c i).place;
+      width = (span_of_c i).width;
       text = leb 9 i;
       optional = false;
     }
@@ -70,7 +86,7 @@ pub fields_of_c_lem : (i : ℕ) → i < 12 → field_of_c i ≡ cell_at false i
 unfolding below numeral to_section_end to_next_part
 fields_of_c_lem i h = agree field_of_c (cell_at false) 12 i refl h
 
--- what stands in the code's tables for field i of a C is that field
+-- what stands in the code's table for field i of a C is that field
 pub entries_of_c : (i p w : ℕ) → i < 12 → p ≡ (field_of_c i).place → w ≡ (field_of_c i).width
     → record { place = p; width = w; text = leb 9 i; optional = false } ≡ cell_at false i
 entries_of_c i p w h e f = ap₂ (λ (x y : ℕ). record { place = x; width = y; text = leb 9 i; optional = false }) e f ∙ fields_of_c_lem i h

@@ -40,9 +40,10 @@ fn header_cell(i: usize) -> Cell
     if i >= line::FIELDS_OF_A {
         return NO_CELL;
     }
+    let span = tables::FIELDS_OF_A[i];
     Cell {
-        place: usize::from(tables::PLACES_OF_A[i]),
-        width: usize::from(tables::WIDTHS_OF_A[i]),
+        place: usize::from(span.place),
+        width: usize::from(span.width),
         text: i == tables::A6,
         optional: i == tables::A11B,
     }
@@ -50,6 +51,7 @@ fn header_cell(i: usize) -> Cell
 
 // Where in C the mark of part i stands, from 0: the second section takes 2 parts, the third to fifth 4 each, the sixth 1. 0 where a payment has no
 // such part.
+// No Option, since its clause and the definition `cell_at` answer so: what is no field has the place 0.
 pub fn mark_at(i: usize) -> usize
     ensures { result ≡ (cell_at false (fields_with i)).place }
 {
@@ -67,9 +69,10 @@ fn payment_cell(i: usize) -> Cell
     ensures { result ≡ cell_at false i }
 {
     if i < line::FIELDS_OF_C {
+        let span = tables::FIELDS_OF_C[i];
         return Cell {
-            place: usize::from(tables::PLACES_OF_C[i]),
-            width: usize::from(tables::WIDTHS_OF_C[i]),
+            place: usize::from(span.place),
+            width: usize::from(span.width),
             text: i >= line::NUMBERS_OF_C,
             optional: false,
         };
@@ -97,6 +100,7 @@ fn payment_cell(i: usize) -> Cell
 
 // Field i of the line of A or of a C, from 0 behind the letter. Which of the two is a Boolean here and wherever `head` is passed, since the
 // definitions of lines, `cell_at` and `cells_of`, take one.
+// Where there is no such field the answer is NO_CELL and no Option, since its clause and the definition `cell_at` answer so.
 pub fn cell_at(head: bool, i: usize) -> Cell
     ensures { result ≡ cell_at head i }
 {

@@ -5,10 +5,11 @@
 -- and so it has passed the tests that the code made (`looked` and `keeps` of FieldLaws). A number that was refused or a test that failed
 -- therefore leaves none (`no_number`, `receiver_tests`, `amount_tests`).
 use Prim.Native.Nat.{ℕ, ◌+◌}
-use mathlib.Core.Path.{◌≡◌, sym, ◌∙◌, subst}
+use mathlib.Core.Path.{◌≡◌, refl, sym, ◌∙◌, subst}
 use mathlib.Core.Bool.{Bool, true, false, ◌&&◌, not}
 use mathlib.Core.List.{List}
-use Rattle.std.specs.Prelude.{Err}
+use Rattle.std.specs.Prelude.{Option, Some, None, Ok, Err}
+use Rattle.std.specs.Result.{result_ok}
 use lib.Dec.{T, leb, ltb}
 use borrow.Author.Tests.{not-true, not-false}
 use Rattle.form.specs.Kind.{digits}
@@ -22,12 +23,39 @@ use Rattle.diskette.specs.Fields.{rules_c4, rules_c5, rules_c6, rules_c7a, rules
 use Rattle.layout.specs.Lines as line
 use Rattle.fields.specs.declared.Refusal.{Refusal}
 use Rattle.fields.specs.Answers.{Reading, of_field, numbers}
+use Rattle.fields.proofs.AnswerLaws.{number_is}
 use Rattle.fields.proofs.WalkLaws.{fails}
 use Rattle.sums.specs.declared.AccountSum.{AccountSum}
 use Rattle.sums.specs.declared.BankCodeSum.{BankCodeSum}
 use Rattle.sums.specs.declared.CentSum.{CentSum}
-use Rattle.line_reader.specs.Lines.{Receiver, Amount}
+use Rattle.line_reader.specs.Lines.{Found, Receiver, Amount}
 use Rattle.line_reader.proofs.FieldLaws.{looked, keeps}
+
+-- ---- what `ok` has taken from the answer to a number
+
+pub ok_some : (a : Reading (ℕ × ℕ)) {y : ℕ × ℕ} → Some y ≡ result_ok a → a ≡ Ok y
+ok_some (Ok x) e = cc
+ok_some (Err r) e = absurd cc
+
+ok_none : (a : Reading (ℕ × ℕ)) → None ≡ result_ok a → (r : Refusal) × (a ≡ Err r)
+ok_none (Ok x) e = absurd cc
+ok_none (Err r) e = (r, refl)
+
+module _ {a : Reading (ℕ × ℕ)} (p n : ℕ) (x : Look ℕ) (told : a ≡ of_field numbers p n x) where
+  -- the number that stands there, and the place behind it
+  pub taken : {y : ℕ × ℕ} → Some y ≡ result_ok a → (x ≡ has y.0) × (y.1 ≡ n)
+  taken given = number_is p n x told (ok_some a given)
+
+  -- where there is none, no number is read
+  pub no_number : None ≡ result_ok a → {v : ℕ} → x ≡ has v → ⊥
+  no_number given e = has_or_lacks (sym e ∙ (fails numbers p n x told (ok_none a given).1).lack)
+
+-- what was found, or that nothing was
+pub found : {A : Type 0} (P : A → Type 0) (o : Option A) → (o ≡ None → (x : A) → P x → ⊥) → ((x : A) → o ≡ Some x → P x) → Found P o
+found P None none some = none refl
+found P (Some x) none some = some x refl
+
+-- ---- tests
 
 -- both of two tests were passed
 pub both : (a b : Bool) → not (a && b) ≡ false → (a ≡ true) × (b ≡ true)
@@ -62,10 +90,6 @@ module _ (l : List ℕ) (q v : ℕ) where
   kept_c12 sum content e i = rw (content, e, i)
 
 -- ---- where a number is none, or fails a test, no number keeps the rules
-
--- where a number was refused, none is read
-pub no_number : {a : Reading (ℕ × ℕ)} (p n : ℕ) (x : Look ℕ) → a ≡ of_field numbers p n x → {r : Refusal} → a ≡ Err r → {v : ℕ} → x ≡ has v → ⊥
-no_number p n x told given e = has_or_lacks (sym e ∙ (fails numbers p n x told given).lack)
 
 -- a test that is passed does not fail
 pub failed : {b : Bool} → T b → b ≡ false → ⊥

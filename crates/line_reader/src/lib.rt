@@ -1,5 +1,7 @@
 // A payment's line read in one walk, straight from the listing, with no record laid out. Where composing makes no payment of the line the answer
-// is no, and the fault is named by the reading that lays out the record.
+// is no, and the fault is named by the reading that lays out the record. The fields are those that `payment_fields` reads in a file. They are read
+// here by functions of their own for speed: no record is laid out for them (docs/DECISIONS.md, B-57), and those of the check, called from here too,
+// would no longer be built into it (B-59).
 #![tactic(auto)]
 
 ghost use Rattle.std.specs.Prelude.{◌≡◌, ◌+◌, ◌≤◌, length, drop};
@@ -31,7 +33,8 @@ pub struct SeenLine {
     pub next: usize,
 }
 
-// The letter at p, and tabs behind it and behind each number but the last.
+// The letter at p, and tabs behind it and behind each number but the last. This and the next two are steps of `numbers_at`, which tests once that
+// they may look so far. A struct of the listing and p, with that for an invariant, would be one more name for what three lines say.
 fn parted(l: &[u8], p: usize) -> bool
     requires { p + tab_of_texts ≤ length l.now }
     ensures { result ≡ parted l.now p }
@@ -58,30 +61,12 @@ fn receiver_at(
     requires { p + tab_of_texts ≤ length l.now }
     ensures { Receivers l.now p (letters_of kind) accounts.0 banks.0 result }
 {
-    let c3 = fields::number_at(l, p + line::C3, width::C3);
-    let Ok((_, _)) = c3 else {
-        return None;
-    };
-    let c4 = fields::number_at(l, p + line::C4, width::C4);
-    let Ok((bank_code, _)) = c4 else {
-        return None;
-    };
-    let c5 = fields::number_at(l, p + line::C5, width::C5);
-    let Ok((account, _)) = c5 else {
-        return None;
-    };
-    let c6 = fields::number_at(l, p + line::C6, width::C6);
-    let Ok((customer, _)) = c6 else {
-        return None;
-    };
-    let c7a = fields::number_at(l, p + line::C7A, width::C7A);
-    let Ok((key, _)) = c7a else {
-        return None;
-    };
-    let c7b = fields::number_at(l, p + line::C7B, width::C7B);
-    let Ok((supplement, _)) = c7b else {
-        return None;
-    };
+    fields::number_at(l, p + line::C3, width::C3).ok()?;
+    let (bank_code, _) = fields::number_at(l, p + line::C4, width::C4).ok()?;
+    let (account, _) = fields::number_at(l, p + line::C5, width::C5).ok()?;
+    let (customer, _) = fields::number_at(l, p + line::C6, width::C6).ok()?;
+    let (key, _) = fields::number_at(l, p + line::C7A, width::C7A).ok()?;
+    let (supplement, _) = fields::number_at(l, p + line::C7B, width::C7B).ok()?;
     let receiver = payment_fields::bank_code_ok(bank_code) & (account != 0);
     let keys = payment_fields::key_ok(kind, key) & payment_fields::supplement_ok(key, supplement);
     if !(receiver & payment_fields::customer_ok(customer) & keys) {
@@ -97,24 +82,14 @@ fn amount_at(l: &[u8], p: usize, cents: CentSum) -> Option<CentSum>
     requires { p + tab_of_texts ≤ length l.now }
     ensures { Amounts l.now p cents.0 result }
 {
-    let c10 = fields::number_at(l, p + line::C10, width::C10);
-    let Ok((bank_code, _)) = c10 else {
-        return None;
-    };
-    let c11 = fields::number_at(l, p + line::C11, width::C11);
-    let Ok((account, _)) = c11 else {
-        return None;
-    };
-    let c12 = fields::number_at(l, p + line::C12, width::C12);
-    let Ok((v, _)) = c12 else {
-        return None;
-    };
+    let (bank_code, _) = fields::number_at(l, p + line::C10, width::C10).ok()?;
+    let (account, _) = fields::number_at(l, p + line::C11, width::C11).ok()?;
+    let (v, _) = fields::number_at(l, p + line::C12, width::C12).ok()?;
     let sender = payment_fields::bank_code_ok(bank_code) & (account != 0);
     if !(sender & (v != 0)) {
         return None;
     }
-    let new_cents = cents.add(v)?;
-    Some(new_cents)
+    cents.add(v)
 }
 
 // All numbers of the line at p, and the tabs between them: the sums with these numbers.
@@ -129,16 +104,15 @@ fn numbers_at(l: &[u8], p: usize, kind: FileKind, sums: Sums) -> Option<Sums>
     }
     let (accounts, banks) = receiver_at(l, p, kind, sums.accounts, sums.banks)?;
     let cents = amount_at(l, p, sums.cents)?;
-    let new_sums = Sums {
+    Some(Sums {
         accounts,
         banks,
         cents,
-    };
-    Some(new_sums)
+    })
 }
 
 // Whether b is a permitted sign. Here bytes are tried one by one, and one look at the bits is less than the three ranges and two signs of
-// `fields`.
+// `fields` (docs/DECISIONS.md, B-58).
 fn is_sign(b: u8) -> bool
     ensures { result ≡ sign b }
 {
@@ -151,10 +125,7 @@ fn signs_end(l: &[u8], p: usize) -> usize
     requires { p ≤ length l.now }
     ensures { result ≡ signs_end l.now p }
 {
-    let mut end = l.len();
-    if end - p > width::TEXT {
-        end = p + width::TEXT;
-    }
+    let end = l.len().min(p + width::TEXT);
     for i in p..end {
         if !is_sign(l[i]) {
             return i;
@@ -203,10 +174,7 @@ fn part_at(l: &[u8], q: usize, room: u64) -> Option<(u64, usize)>
     if l[q] != line::TAB {
         return None;
     }
-    let read = fields::number_at(l, q + 1, width::MARK);
-    let Ok((mark, behind)) = read else {
-        return None;
-    };
+    let (mark, behind) = fields::number_at(l, q + 1, width::MARK).ok()?;
     if !parts::mark_ok(room, mark) {
         return None;
     }

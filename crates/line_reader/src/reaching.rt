@@ -31,7 +31,8 @@ pub fn reach(s: &[u8], p: usize, z: u8) -> usize
     ensures { result ≡ p + reach z (drop p s.now) }
 {
     let mut i = p;
-    // It goes on by sixteen bytes, up to where fewer are left.
+    // It goes on by sixteen bytes, up to where fewer are left. This is no `for` over `step_by(16)` or `chunks_exact(16)`, since the place where it
+    // stops, found or not, is where the search byte by byte begins.
     while fields::whole(s.len(), i, 16) {
         if among_sixteen(s, i, z) {
             break;

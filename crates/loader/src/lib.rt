@@ -1,7 +1,7 @@
 // Loading a file, or a medium of files: it is checked, then the room in the columns, and only then are rows written.
 #![tactic(auto)]
 
-ghost use Rattle.std.specs.Prelude.{true, ◌≡◌, ◌+◌, ◌≤◌, [], ◌∷◌, length, take, drop, T};
+ghost use Rattle.std.specs.Prelude.{true, Some, ◌≡◌, ◌+◌, ◌≤◌, [], ◌∷◌, length, take, drop, T};
 ghost use Rattle.std.proofs.lemmas.List.Edits.{sets};
 ghost use Rattle.form.specs.Kind.{every, digit};
 ghost use Rattle.form.specs.Reader.{number};
@@ -45,30 +45,23 @@ struct FileRows {
 }
 
 // The sums with the numbers of one payment more. The file has been accepted, so none of them goes over its limit.
+fn added(sums: Sums, account: u64, code: u64, amount: u64) -> Option<Sums>
+    requires { Within (plus sums account code amount) }
+    ensures { result ≡ Some (plus sums account code amount) }
+{
+    Some(Sums {
+        accounts: sums.accounts.add(account)?,
+        banks: sums.banks.add(code)?,
+        cents: sums.cents.add(amount)?,
+    })
+}
+
+// The same as bare sums: there is always an answer, so the sums given in its place are never taken.
 fn plus_payment(sums: Sums, account: u64, code: u64, amount: u64) -> Sums
     requires { Within (plus sums account code amount) }
     ensures { result ≡ plus sums account code amount }
 {
-    let accounts = sums.accounts;
-    let banks = sums.banks;
-    let cents = sums.cents;
-    let new_accounts = accounts.add(account);
-    let Some(a) = new_accounts else {
-        return sums::NO_SUMS;
-    };
-    let new_banks = banks.add(code);
-    let Some(b) = new_banks else {
-        return sums::NO_SUMS;
-    };
-    let new_cents = cents.add(amount);
-    let Some(c) = new_cents else {
-        return sums::NO_SUMS;
-    };
-    Sums {
-        accounts: a,
-        banks: b,
-        cents: c,
-    }
+    added(sums, account, code, amount).unwrap_or(sums::NO_SUMS)
 }
 
 // Writes the rows of the accepted file that begins at a place, from a row on: from one payment to the next, until E comes. Where the next payment
@@ -131,11 +124,7 @@ pub fn load(s: &[u8], c4: &mut [u64], c5: &mut [u64], c12: &mut [u64], start: &m
     let n = checked.count as usize;
     let roomy = (n <= c4.len()) & ((n <= c5.len()) & ((n <= c12.len()) & (n <= start.len())));
     if !roomy {
-        return Checked {
-            verdict: verdict::refuse(refusals::NO_ROOM, 0),
-            count: 0,
-            sums: sums::NO_SUMS,
-        };
+        return Checked::from(fields::refuse(refusals::NO_ROOM, 0));
     }
     fill_file(s, 0, 0, c4, c5, c12, start);
     checked
@@ -220,11 +209,7 @@ pub fn load_medium(
     let sums = (files <= sum5.len()) & ((files <= sum4.len()) & (files <= sum12.len()));
     let table = (files <= begin.len()) & ((files <= count.len()) & sums);
     if !(columns & table) {
-        return MediumChecked {
-            verdict: verdict::refuse(refusals::NO_ROOM, 0),
-            files: 0,
-            payments: 0,
-        };
+        return MediumChecked::from(fields::refuse(refusals::NO_ROOM, 0));
     }
     fill_medium(s, c4, c5, c12, start, begin, count, sum5, sum4, sum12);
     medium_checked

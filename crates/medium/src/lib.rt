@@ -17,13 +17,16 @@ pub struct MediumChecked {
     pub payments: u64,
 }
 
-fn refused(why: Refusal) -> MediumChecked
-    ensures { result ≡ refused_with why }
-{
-    MediumChecked {
-        verdict: Verdict::from(why),
-        files: 0,
-        payments: 0,
+// What is given back of a medium that is refused so.
+impl From<Refusal> for MediumChecked {
+    ghost from_gives = { λ why v. v ≡ refused_with why };
+
+    fn from(why: Refusal) -> MediumChecked {
+        MediumChecked {
+            verdict: Verdict::from(why),
+            files: 0,
+            payments: 0,
+        }
     }
 }
 
@@ -38,7 +41,7 @@ pub fn check_medium(s: &[u8]) -> MediumChecked
     loop {
         let file = match checker::file_at(s, p) {
             Ok(file) => file,
-            Err(why) => return refused(why),
+            Err(why) => return MediumChecked::from(why),
         };
         files += 1;
         payments += file.count;

@@ -29,35 +29,27 @@ const BEHIND_TWO: usize = length::SHORTEST_C - at::PARTS - 2 * width::PART;
 const BEHIND_FOUR: usize = length::SECTION - 4 * width::PART;
 
 // How many parts may still follow a part of this mark, where room parts could follow the one before it.
+// A mark is a number here and in `mark_ok`, not an enum, because both answer for every number; a narrower type would ask more of callers.
 pub fn room_after(mark: u64, room: u64) -> u64
     ensures { result ≡ room_after mark room }
 {
-    if mark == 1 {
-        return 14;
+    match mark {
+        1 => 14,
+        2 => room.min(14).saturating_sub(1),
+        _ => 0,
     }
-    if mark != 2 {
-        return 0;
-    }
-    if room > 14 {
-        return 13;
-    }
-    if room == 0 {
-        return 0;
-    }
-    room - 1
 }
 
 // Whether a part of this mark may stand where room parts can follow.
 pub fn mark_ok(room: u64, mark: u64) -> bool
     ensures { result ≡ mark_ok room mark }
 {
-    if mark == 1 {
-        return room == 15;
+    match mark {
+        1 => room == 15,
+        2 => room >= 2,
+        3 => room >= 1,
+        _ => false,
     }
-    if mark == 2 {
-        return room >= 2;
-    }
-    (mark == 3) & (room >= 1)
 }
 
 // The blanks from the end of part i to the end of its section.
@@ -75,15 +67,8 @@ fn to_section_end(i: u64) -> usize
 fn part_at(s: &[u8], p: usize) -> &[u8]
     ensures { result.now ≡ take 29 (drop p s.now) }
 {
-    let n = s.len();
-    if n <= p {
-        return &s[n..];
-    }
-    if n - p <= width::PART {
-        return &s[p..];
-    }
-    let end = p + width::PART;
-    &s[p..end]
+    let rest = &s[p.min(s.len())..];
+    &rest[..width::PART.min(rest.len())]
 }
 
 // The mark of a part, where left more parts are to come.
@@ -132,6 +117,7 @@ fn closing_behind(s: &[u8], p: usize, i: u64) -> Reading<usize>
 }
 
 // How many parts the payment at p has, as its C18 tells; 0 where the file ends before that, or no digits stand there.
+// 0 and no Option, since its clause and the definition `parts_at` answer so.
 pub fn count_at(s: &[u8], p: usize) -> usize
     ensures { result ≡ parts_at s.now p }
 {
@@ -149,6 +135,7 @@ pub fn read_parts(s: &[u8], at: usize, k: u64) -> Reading<usize>
     let mut p = at;
     let mut room: u64 = MOST_PARTS;
     for i in 0..k {
+        // Each record reader takes the field's answer apart by `let .. else` and returns the refusal at once: a rule of the project.
         let closed = closing_before(s, p, i);
         let Ok(start) = closed else {
             return closed;

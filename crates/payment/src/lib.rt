@@ -52,6 +52,7 @@ pub fn length_at(s: &[u8], p: usize, count: u64, sums: Sums) -> Reading<(u64, us
 pub fn payment_at(s: &[u8], p: usize, kind: FileKind, sums: Sums, l: u64) -> Reading<(Sums, usize)>
     ensures { result ≡ of_read (payments_on sums) (read_at (payment (letters_of kind) (totals_of 0 sums) l) s.now p) }
 {
+    // Each record reader takes the field's answer apart by `let .. else` and returns the refusal at once: a rule of the project.
     let receiver = payment_fields::receiver_at(s, p, kind, sums.accounts, sums.banks);
     let Ok((accounts, banks, p8)) = receiver else {
         return Err(fields::why(receiver));

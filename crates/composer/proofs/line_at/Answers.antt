@@ -6,7 +6,7 @@ use Rattle.composer.proofs.StepLaws.{line_inside, seen_told}
 use Rattle.composer.proofs.line_at.Goals as goal
 
 pub returns-in-Some : goal.returns-in-Some
-returns-in-Some c = seen_told _ _ _ _ _ _ c.requires.0 c.in-Some.ensures
+returns-in-Some c = seen_told _ _ _ _ _ _ c.requires c.in-Some.ensures
 
 pub slice_bounds-payment_line-end : goal.slice_bounds-payment_line-end
-slice_bounds-payment_line-end c = (line_inside _ _ _ c.requires.0 c.reach-e.ensures).1
+slice_bounds-payment_line-end c = (line_inside _ _ _ c.requires c.reach-e.ensures).1

@@ -1,15 +1,15 @@
 -- composer::payment_line meets its contract: the line's form, then its record, laid out and read.
 -- There is no loop, and each return is a law of ToldLaws: `payment_denied`, `payment_refuses`, `payment_accepts`. They ask for three facts that
 -- are gathered on the way: k is the number of parts that the line tells (`parts`), the line has its form behind the test (`formed`), and what
--- was read is the record laid out from the line (`read`). The last is the long one: a front part of the lent space is lent on to be written and
--- then to be read, so its length has to be known at both (`within`, `laid_long`).
+-- was read is the record laid out from the line (`read`). The last is the long one: the front part of the lent space that is written is the one
+-- that is read, since it is as long when it has been written (`laid_long`).
 use Prim.Native.Nat.{ℕ, ◌≤◌}
 use native.Mathlib.Omega.{arith}
 use mathlib.Core.Path.{◌≡◌, sym, ap, ◌∙◌}
 use mathlib.Core.Bool.{false}
 use mathlib.Core.List.{List}
 use lib.ListN.{length, drop}
-use lib.Seq.{length-take-le, take_at}
+use lib.Seq.{take_at}
 use borrow.Author.Tests.{not-false, not-true}
 use Rattle.form.specs.Place.{read_at}
 use Rattle.document.specs.Marks.{most_parts}
@@ -21,9 +21,9 @@ use Rattle.listing.specs.Lines.{tab, split}
 use Rattle.listing.specs.Records.{record_c, fields_with, parts_of, lay}
 use Rattle.listing.specs.Composing.{whole_payment}
 use Rattle.composer.specs.Telling.{FormedLine, behind_letter}
-use Rattle.composer.proofs.ToldLaws.{few, longest, payment_denied, payment_refuses, payment_accepts}
+use Rattle.composer.proofs.ToldLaws.{few, payment_denied, payment_refuses, payment_accepts}
 use Rattle.composer.proofs.payment_line.Goals as goal
-use Rattle.composer.proofs.payment_line.Goals.{Else-not-formed, After-bytes_of-bytes, After-lay_payment, After-payment_record}
+use Rattle.composer.proofs.payment_line.Goals.{Else-not-formed, After-lay_payment, After-payment_record}
 
 -- ---- once the line has its form
 
@@ -36,15 +36,10 @@ few_parts c = omega (arith, parts c, few (length (split tab c.args.x.now)))
 formed : (c : Else-not-formed) → FormedLine false (fields_with c.parts_of-k.result) c.args.x.now
 formed c = let h = few_parts c in (omega arith, (omega arith, sym c.formed.ensures ∙ not-false _ c.if-not-formed.false-raw))
 
--- ---- once its bytes are known
-
-within : (c : After-bytes_of-bytes) → c.bytes_of-bytes.result ≤ length c.args.space.now
-within c = omega (arith, longest c.parts_of-k.result, c.bytes_of-bytes.ensures, c.requires.1)
-
 -- ---- once its record is laid out
 
 laid_long : (c : After-lay_payment) → length c.lay_payment.new.out ≡ c.bytes_of-bytes.result
-laid_long c = c.lay_payment.auto.out ∙ length-take-le _ _ (within (goal.at.After-lay_payment c).After-bytes_of-bytes)
+laid_long c = omega arith
 
 pub returns-then-not-formed : goal.returns-then-not-formed
 returns-then-not-formed c =

@@ -29,7 +29,7 @@ overflow_add-e c =
 pub read_payments-requires : goal.read_payments-requires
 read_payments-requires c =
     let h = first_within _ _ c.reach-e.ensures c.if-e-l.false in
-    (omega arith, refl)
+    omega arith
 
 pub returns : goal.returns
 returns c =

@@ -8,11 +8,11 @@ use Rattle.finder.proofs.SpotLaws.{find_refused, find_none, find_some}
 use Rattle.finder.proofs.find.Goals as goal
 
 pub returns-then-checked-ne0 : goal.returns-then-checked-ne0
-returns-then-checked-ne0 c = c.refused.ensures ∙ find_refused _ c.check-checked.ensures c.if-checked-ne0.true _
+returns-then-checked-ne0 c = c.from.ensures ∙ find_refused _ c.check-checked.ensures c.if-checked-ne0.true _
 
 pub returns-then-n-checked : goal.returns-then-n-checked
 returns-then-n-checked c =
-    c.refused-then-n-checked.ensures ∙ ap nowhere c.refuse.ensures ∙ find_none _ c.check-checked.ensures c.if-checked-ne0.false _ (omega (arith, c.if-n-checked.true))
+    c.from-then-n-checked.ensures ∙ ap nowhere c.refuse.ensures ∙ find_none _ c.check-checked.ensures c.if-checked-ne0.false _ (omega (arith, c.if-n-checked.true))
 
 pub start_of-start-requires : goal.start_of-start-requires
 start_of-start-requires c =

@@ -13,20 +13,20 @@ use Rattle.finder.proofs.locate.Goals as goal
 use Rattle.finder.proofs.locate.Goals.{Else-not-has_text}
 
 pub returns-then-checked-ne0 : goal.returns-then-checked-ne0
-returns-then-checked-ne0 c = c.refused.ensures ∙ locate_refused _ c.check-checked.ensures c.if-checked-ne0.true _ _
+returns-then-checked-ne0 c = c.from.ensures ∙ locate_refused _ c.check-checked.ensures c.if-checked-ne0.true _ _
 
 pub begins-requires : goal.begins-requires
 begins-requires c = count_is _ c.check-checked.ensures c.if-checked-ne0.false
 
 pub returns-then-not-begins : goal.returns-then-not-begins
 returns-then-not-begins c =
-    c.refused-then-not-begins.ensures
+    c.from-then-not-begins.ensures
     ∙ ap nowhere c.refuse.ensures
     ∙ locate_none _ c.check-checked.ensures c.if-checked-ne0.false _ _ (sym c.begins.ensures ∙ c.if-not-begins.true)
 
 pub returns-then-not-has_text : goal.returns-then-not-has_text
 returns-then-not-has_text c =
-    c.refused-then-not-has_text.ensures
+    c.from-then-not-has_text.ensures
     ∙ ap nowhere c.refuse-then-not-has_text.ensures
     ∙ locate_no_text _ c.check-checked.ensures c.if-checked-ne0.false _ _ (sym c.begins.ensures ∙ c.if-not-begins.false) c.count_at-k.ensures
     (sym c.has_text.ensures ∙ c.if-not-has_text.true)

@@ -9,7 +9,7 @@ returns-then-checked-ne0 c =
 
 pub returns-then-not-roomy : goal.returns-then-not-roomy
 returns-then-not-roomy c =
-    let said = (load_no_room _ _ _ _ _ c.check-checked.ensures c.if-checked-ne0.false (not-true _ c.if-not-roomy.true-raw)) in record { answer = rw c.refuse.ensures said.0; c4 = rw c.refuse.ensures said.1.0; c5 = rw c.refuse.ensures said.1.1.0; c12 = rw c.refuse.ensures said.1.1.1.0; start = rw c.refuse.ensures said.1.1.1.1 }
+    let said = (load_no_room _ _ _ _ _ c.check-checked.ensures c.if-checked-ne0.false (not-true _ c.if-not-roomy.true-raw)) in record { answer = rw (c.from.ensures, c.refuse.ensures) said.0; c4 = rw (c.from.ensures, c.refuse.ensures) said.1.0; c5 = rw (c.from.ensures, c.refuse.ensures) said.1.1.0; c12 = rw (c.from.ensures, c.refuse.ensures) said.1.1.1.0; start = rw (c.from.ensures, c.refuse.ensures) said.1.1.1.1 }
 
 pub fill_file-requires : goal.fill_file-requires
 fill_file-requires c =

@@ -9,7 +9,7 @@ returns-then-medium_checked-ne0 c =
 
 pub returns-then-not-columns-table : goal.returns-then-not-columns-table
 returns-then-not-columns-table c =
-    let said = (medium_no_room _ _ _ _ _ _ _ _ _ _ c.check_medium-medium_checked.ensures c.if-medium_checked-ne0.false (not-true _ c.if-not-columns-table.true-raw)) in record { answer = rw c.refuse.ensures said.0; c4 = rw c.refuse.ensures said.1.0; c5 = rw c.refuse.ensures said.1.1.0; c12 = rw c.refuse.ensures said.1.1.1.0; start = rw c.refuse.ensures said.1.1.1.1.0; begin = rw c.refuse.ensures said.1.1.1.1.1.0; count = rw c.refuse.ensures said.1.1.1.1.1.1.0; sum5 = rw c.refuse.ensures said.1.1.1.1.1.1.1.0; sum4 = rw c.refuse.ensures said.1.1.1.1.1.1.1.1.0; sum12 = rw c.refuse.ensures said.1.1.1.1.1.1.1.1.1 }
+    let said = (medium_no_room _ _ _ _ _ _ _ _ _ _ c.check_medium-medium_checked.ensures c.if-medium_checked-ne0.false (not-true _ c.if-not-columns-table.true-raw)) in record { answer = rw (c.from.ensures, c.refuse.ensures) said.0; c4 = rw (c.from.ensures, c.refuse.ensures) said.1.0; c5 = rw (c.from.ensures, c.refuse.ensures) said.1.1.0; c12 = rw (c.from.ensures, c.refuse.ensures) said.1.1.1.0; start = rw (c.from.ensures, c.refuse.ensures) said.1.1.1.1.0; begin = rw (c.from.ensures, c.refuse.ensures) said.1.1.1.1.1.0; count = rw (c.from.ensures, c.refuse.ensures) said.1.1.1.1.1.1.0; sum5 = rw (c.from.ensures, c.refuse.ensures) said.1.1.1.1.1.1.1.0; sum4 = rw (c.from.ensures, c.refuse.ensures) said.1.1.1.1.1.1.1.1.0; sum12 = rw (c.from.ensures, c.refuse.ensures) said.1.1.1.1.1.1.1.1.1 }
 
 pub fill_medium-requires : goal.fill_medium-requires
 fill_medium-requires c =

@@ -7,7 +7,7 @@ pub loop-file-init : goal.loop-file-init
 loop-file-init c = going_first _
 
 pub returns-in-Err : goal.returns-in-Err
-returns-in-Err c = c.refused.ensures ∙ going_refused c.loop-file.invariant c.file_at.ensures c.in-Err.is
+returns-in-Err c = c.from.ensures ∙ going_refused c.loop-file.invariant c.file_at.ensures c.in-Err.is
 
 pub overflow_add-files : goal.overflow_add-files
 overflow_add-files c =

@@ -1,9 +1,12 @@
--- parts::part_at meets its contract: the part ends where its bytes or the file do. Where the file ends in the part, both are all that is left.
-use Rattle.std.proofs.Common.{◌-◌, length, drop, sym, ◌∙◌, arith, length-drop, take_all}
+-- parts::part_at meets its contract: the part ends where its bytes or the file do.
+use Rattle.std.proofs.Common.{◌≡◌, ◌-◌, length, drop, take, arith, length-drop, take_all}
+use Rattle.std.proofs.lemmas.List.{take_min, drop_min}
 use Rattle.parts.proofs.part_at.Goals as goal
 
-pub returns-then-n-p-le-PART : goal.returns-then-n-p-le-PART
-returns-then-n-p-le-PART c =
-    let a = c.args in
-    let l = length-drop a.p a.s.now in
-    take_all (length a.s.now - a.p) (drop a.p a.s.now) (omega arith) ∙ sym (take_all 29 (drop a.p a.s.now) (omega arith))
+pub returns : goal.returns
+returns c =
+    let s = c.args.s.now in
+    let m = c.min.result in
+    let l = length-drop m s in
+    let rest : take (length s - m) (drop m s) ≡ drop m s = take_all (length s - m) (drop m s) (omega arith) in
+    rw (rest, c.min-2.ensures, rest, take_min, c.min.ensures, drop_min)
