@@ -51,6 +51,7 @@ fn start_of(s: &[u8], n: usize) -> usize
     ensures { get_elem? (starts (payments_of (answer s.now))) n ≡ some result }
 {
     let mut p = length::A;
+    // Where the next payment stands hangs on C18 of this one: the range counts them.
     for _row in 0..n {
         p += layout::bytes_of(parts::count_at(s, p));
     }
@@ -63,6 +64,7 @@ fn begins(s: &[u8], n: usize, start: usize) -> bool
     ensures { result ≡ found (begun_at start (payments_of (answer s.now))) }
 {
     let mut p = length::A;
+    // Where the next payment stands hangs on C18 of this one: the range counts them.
     for _row in 0..n {
         if p == start {
             return true;

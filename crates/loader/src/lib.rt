@@ -56,7 +56,7 @@ fn added(sums: Sums, account: u64, code: u64, amount: u64) -> Option<Sums>
     })
 }
 
-// The same as bare sums: there is always an answer, so the sums given in its place are never taken.
+// The same, taken out: there always are such sums, so those that stand for none are never given.
 fn plus_payment(sums: Sums, account: u64, code: u64, amount: u64) -> Sums
     requires { Within (plus sums account code amount) }
     ensures { result ≡ plus sums account code amount }
