@@ -1,7 +1,7 @@
 -- Bytes printed into the output, stretch by stretch, and what the stretches of a line are.
 -- `Going` is kept from stretch to stretch: what is still to come, written where the code stands, makes the output what it was to become. A
 -- stretch that is printed goes off the front of what is still to come (`going_more`, by `over_next`), be it a field, all numbers, or mark and
--- text of a part (`rest_field`, `rest_numbers`, `rest_part`). Where nothing is still to come, all is written (`going_ends`).
+-- text of a part (`rest_field`, `rest_numbers`, `rest_part`). Where nothing is still to come, all is written (`going_done`).
 use Prim.Native.Nat.{ℕ, zero, suc, ◌+◌, ◌-◌, ◌≤◌, ◌<◌}
 use native.Mathlib.Nat.{add-zero}
 use native.Mathlib.Numerals.{add-one}

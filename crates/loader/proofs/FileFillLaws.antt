@@ -1,6 +1,6 @@
 -- The loop that fills the columns with the payments of one file: one turn writes a row of the next payment, and goes on to the one behind it.
--- The file stands at its place: payments behind A, and then E, so the letter behind a length tells whether another payment comes (`a-payment`,
--- `the_end`). The loop keeps `FileFilling`: the payments left stand at p, the totals so far and theirs together are those of all (`together`), and in
+-- The file stands at its place: payments behind A, and then E, so the letter behind a length tells whether another payment comes
+-- (`letter_of_lem`). The loop keeps `FileFilling`: the payments left stand at p, the totals so far and theirs together are those of all (`together`), and in
 -- each column the rows still to come make of it what all rows make of the old one. With E reached, none is left, and all of it is told.
 use Prim.Native.Nat.{ℕ, ◌+◌, ◌*◌, ◌≤◌, ◌<◌, min}
 use native.Mathlib.Nat.{zero-add}
