@@ -42,8 +42,8 @@ fn header_cell(i: usize) -> Cell
     }
     let span = tables::FIELDS_OF_A[i];
     Cell {
-        place: usize::from(span.place),
-        width: usize::from(span.width),
+        place: span.place,
+        width: span.width,
         text: i == tables::A6,
         optional: i == tables::A11B,
     }
@@ -71,8 +71,8 @@ fn payment_cell(i: usize) -> Cell
     if i < line::FIELDS_OF_C {
         let span = tables::FIELDS_OF_C[i];
         return Cell {
-            place: usize::from(span.place),
-            width: usize::from(span.width),
+            place: span.place,
+            width: span.width,
             text: i >= line::NUMBERS_OF_C,
             optional: false,
         };

@@ -31,7 +31,7 @@ fn known_number(s: &[u8], p: usize, w: usize) -> u64
 {
     let mut v: u64 = 0;
     for digit in &s[p..p + w] {
-        v = v * 10 + u64::from(*digit - b'0');
+        v = v * 10 + (u64::from(*digit) - u64::from(b'0'));
     }
     v
 }
