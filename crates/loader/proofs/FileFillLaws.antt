@@ -3,12 +3,11 @@
 -- (`letter_of_lem`). The loop keeps `FileFilling`: the payments left stand at p, the totals so far and theirs together are those of all (`together`), and in
 -- each column the rows still to come make of it what all rows make of the old one. With E reached, none is left, and all of it is told.
 use Prim.Native.Nat.{ℕ, ◌+◌, ◌*◌, ◌≤◌, ◌<◌, min}
-use native.Mathlib.Nat.{zero-add}
 use native.Mathlib.Omega.{arith}
 use mathlib.Core.Path.{◌≡◌, refl, sym, ap, subst, ◌∙◌}
 use mathlib.Core.Logic.{◌≢◌}
 use mathlib.Core.List.{List, [], ◌∷◌, ◌++◌}
-use lib.ListN.{length, take, drop, get_or, set, length-append, length-map}
+use lib.ListN.{length, take, drop, get_or, set, length-append}
 use lib.Seq.{sets}
 use Rattle.form.specs.Reader.{number}
 use Rattle.form.specs.Place.{read_at}
@@ -37,8 +36,7 @@ use Rattle.sums.specs.Sums.{sums_of, totals_of}
 use Rattle.loader.specs.declared.FileRows.{FileRows}
 use Rattle.loader.specs.Columns.{bank_codes, accounts, cents, starts_from, starts_in}
 use Rattle.loader.specs.Filling.{Within, plus, payments_read, rows_read, Fillable}
-use Rattle.loader.proofs.ColumnLaws.{Roomy, has_room, Filled, ColumnFrom, column_from_start, column_from_more, sets_filled}
-use Rattle.loader.proofs.FillLaws.{length_starts}
+use Rattle.loader.proofs.ColumnLaws.{Roomy, has_room, ColumnFrom, column_from_start, column_from_more}
 
 pub same_sums : {a b : AccountSum} {c d : BankCodeSum} {e g : CentSum} → a ≡ b → c ≡ d → e ≡ g
     → ◌≡◌ {A = Sums} (record { accounts = a; banks = c; cents = e }) (record { accounts = b; banks = d; cents = g })
@@ -272,19 +270,3 @@ row_there {first = first} x w h =
         start = omega (arith, r.start, k.starts_left.long);
       };
     }
-
--- rows written from the first on into columns that have room for all of them fill these
-pub filled_from_first : {f c4 c5 c12 start : List ℕ} → Fillable f 0 0 (c4 ∷ c5 ∷ c12 ∷ start ∷ [])
-    → {r : FileRows} {c4' c5' c12' start' : List ℕ} → FilledAt f 0 0 c4 c5 c12 start r c4' c5' c12' start' → Filled (payments_at f 0) c4 c5 c12 start c4' c5' c12' start'
-filled_from_first {f} {c4} {c5} {c12} {start} x g =
-    let ps = payments_at f 0 in
-    let room : Roomy (length ps) c4 c5 c12 start = rw (payments_are x) (has_room (length x.says.payments) c4 c5 c12 start (rw zero-add at x.room)) in (
-      g.1.0 ∙ sets_filled (bank_codes ps) c4 (rw (length-map ps (λ (y : Payment). y.bank_code)) room.c4),
-      (
-        g.1.1.0 ∙ sets_filled (accounts ps) c5 (rw (length-map ps (λ (y : Payment). y.account)) room.c5),
-        (
-          g.1.1.1.0 ∙ sets_filled (cents ps) c12 (rw (length-map ps (λ (y : Payment). y.cents)) room.c12),
-          g.1.1.1.1 ∙ sets_filled (starts_in 0 ps) start (rw (length_starts first_payment ps) room.start),
-        ),
-      ),
-    )

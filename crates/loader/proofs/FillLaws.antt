@@ -1,6 +1,4 @@
--- One turn of a loop that fills the columns from a file by its count of payments: a row of the next payment, and on to the one behind it. No
--- function has this loop now: `load` goes by the fill of a file at any place, whose laws are in FileFillLaws. These are kept because docs/PROOFS.md
--- names them; `length_starts` serves both.
+-- One turn of the loop that fills the columns: a row of the next payment, and on to the one behind it.
 use Prim.Native.Nat.{ℕ, suc, ◌+◌, ◌*◌, ◌≤◌, ◌<◌, min}
 use mathlib.Core.Path.{◌≡◌, refl, ap, ◌∙◌}
 use mathlib.Core.List.{List, [], ◌∷◌}

@@ -1,32 +1,21 @@
 -- A load, once the check has answered: the file's refusal, no room, or all rows.
-use Prim.Native.Nat.{ℕ, ◌+◌}
+use Prim.Native.Nat.{ℕ}
 use mathlib.Core.Path.{◌≡◌, refl, sym, ap, subst, ◌∙◌}
 use mathlib.Core.Logic.{◌≢◌}
 use mathlib.Core.Bool.{Bool, true, false, ◌&&◌, and-true}
-use mathlib.Core.List.{List, [], ◌∷◌, append-nil}
-use native.Mathlib.Nat.{zero-add}
-use native.Mathlib.Omega.{arith}
+use mathlib.Core.List.{List, [], ◌∷◌}
 use lib.ListN.{length}
 use lib.Dec.{leb}
 use borrow.Author.Tests.{eq-eqb, ne_eqb}
 use Rattle.form.specs.Reader.{Answer, accepted, refused}
-use Rattle.form.specs.Place.{done, read_at}
-use Rattle.form.proofs.FilesLaws.{legal_there}
 use Rattle.document.specs.Values.{Document}
-use Rattle.document.specs.Rules.{Legal}
-use Rattle.diskette.specs.Writing.{write, Acceptable}
-use Rattle.diskette.specs.Fields.{Name, document}
+use Rattle.diskette.specs.Fields.{Name}
 use Rattle.diskette.specs.Answer.{answer, outcome, payments_of}
-use Rattle.diskette.proofs.FileSays.{document_says}
-use Rattle.diskette.proofs.Promises.{zero_exactly, accepted_exactly, accepted_reading, payments_counted}
-use Rattle.diskette.proofs.MediumPromises.{takes_a_byte}
+use Rattle.diskette.proofs.Promises.{zero_exactly, accepted_exactly, payments_counted}
 use Rattle.checker.specs.declared.Checked.{Checked}
 use Rattle.checker.specs.Checking.{checked_of}
-use Rattle.loader.specs.declared.FileRows.{FileRows}
-use Rattle.loader.specs.Filling.{payments_read, Fillable}
 use Rattle.loader.specs.Loading.{have_room, if_room, loading, no_room, rows}
 use Rattle.loader.proofs.ColumnLaws.{Filled}
-use Rattle.loader.proofs.FileFillLaws.{payments_at, FilledAt, filled_from_first}
 
 -- the test of four columns as the code has it
 abbrev pub four_tested : ℕ → List ℕ → List ℕ → List ℕ → List ℕ → Bool
@@ -44,19 +33,6 @@ Says file c4 c5 c12 start r c4' c5' c12' start' =
 module _ (file : List ℕ) {c : Checked} (told : c ≡ checked_of (outcome (answer file))) (zero : c.verdict.number ≡ 0) where
   pub accepted_as : (d : Document) × (answer file ≡ accepted d)
   accepted_as = (accepted_exactly file).1 ((zero_exactly file).0 (sym (ap (λ (x : Checked). x.verdict.number) told) ∙ zero))
-
-  reading : Acceptable file
-  reading = (accepted_exactly file).0 accepted_as
-
-  read_first : read_at document file 0 ≡ done reading.0 (0 + length (write reading.0))
-  read_first =
-      let x = reading in
-      (legal_there document takes_a_byte Legal write document_says x.0 x.1 file [] 0 (omega arith) (sym x.2 ∙ sym (append-nil (write x.0)))).0
-
-  -- the payments that are read from the first byte on are those of the file
-  payments_same : payments_at file 0 ≡ payments_of (answer file)
-  unfolding payments_of payments_read
-  payments_same = ap payments_read read_first ∙ sym (ap payments_of (accepted_reading file reading))
 
   pub count_is : c.count ≡ length (payments_of (answer file))
   count_is = ap (λ (x : Checked). x.count) told ∙ payments_counted (answer file)
@@ -91,25 +67,11 @@ module _ (file c4 c5 c12 start : List ℕ) where
 
       -- all rows are written
       module _ (t : four_tested c.count c4 c5 c12 start ≡ true) where
-        room : have_room c.count columns ≡ true
-        room = sym (room_of_four c.count c4 c5 c12 start) ∙ t
-
-        -- the file stands at its first byte, and there is room from the first row on
-        pub may_fill : Fillable file 0 0 columns
-        unfolding payments_of
-        may_fill =
-            let x = reading file told zero in
-            let n : c.count ≡ length x.0.payments = count_is file told zero ∙ ap (λ a. length (payments_of a)) (accepted_reading file x) in
-            record { says = x.0; behind = 0 + length (write x.0); inside = omega arith; read = read_first file told zero; room = rw (zero-add, ← n) room }
-
-        -- what the fill wrote are the rows of all payments
-        pub all_rows : {r : FileRows} {c4' c5' c12' start' : List ℕ} → FilledAt file 0 0 c4 c5 c12 start r c4' c5' c12' start'
-            → Filled (payments_of (answer file)) c4 c5 c12 start c4' c5' c12' start'
-        all_rows {c4' = c4'} {c5' = c5'} {c12' = c12'} {start' = start'} f =
-            subst (λ ps. Filled ps c4 c5 c12 start c4' c5' c12' start') (payments_same file told zero) (filled_from_first may_fill f)
+        pub may_fill : (c.count ≡ length (payments_of (answer file))) × (have_room c.count columns ≡ true)
+        may_fill = (count_is file told zero, sym (room_of_four c.count c4 c5 c12 start) ∙ t)
 
         pub load_full : {c4' c5' c12' start' : List ℕ} → Filled (payments_of (answer file)) c4 c5 c12 start c4' c5' c12' start'
             → Says file c4 c5 c12 start c c4' c5' c12' start'
         load_full {c4'} {c5'} {c12'} {start'} f =
             let all : payments_of (answer file) ≡ rows c file = rw (eq-eqb c.verdict.number 0 zero) in
-            (told ∙ ap checked_of (sym (loaded_if ∙ rw room)), subst (λ ps. Filled ps c4 c5 c12 start c4' c5' c12' start') all f)
+            (told ∙ ap checked_of (sym (loaded_if ∙ rw may_fill.1)), subst (λ ps. Filled ps c4 c5 c12 start c4' c5' c12' start') all f)

@@ -64,10 +64,8 @@ fn plus_payment(sums: Sums, account: u64, code: u64, amount: u64) -> Sums
     added(sums, account, code, amount).unwrap_or(sums::NO_SUMS)
 }
 
-// Writes the rows of the accepted file that begins at a place, from a row on: from one payment to the next, until E comes. Where the next payment
-// stands hangs on C18 of this one, and E alone ends them, so no range tells the places. It is inlined so that `load`, which has the sums from the
-// check, adds none up.
-#[inline(always)]
+// Writes the rows of the accepted file of a medium that begins at a place, from a row on: from one payment to the next, until E comes. Where the next
+// payment stands hangs on C18 of this one, and E alone ends them, so no range tells the places.
 fn fill_file(
     s: &[u8],
     begin: usize,
@@ -109,6 +107,29 @@ fn fill_file(
     }
 }
 
+// Writes the rows of the n payments of an accepted file. The check has counted them, and has their sums: `fill_file` would add these up again.
+fn fill(s: &[u8], n: usize, c4: &mut [u64], c5: &mut [u64], c12: &mut [u64], start: &mut [u64])
+    requires { (n ≡ length (payments_of (answer s.now))) × (have_room n (c4.old ∷ c5.old ∷ c12.old ∷ start.old ∷ []) ≡ true) }
+    ensures c4 { c4.new ≡ filled (bank_codes (payments_of (answer s.now))) c4.old }
+    ensures c5 { c5.new ≡ filled (accounts (payments_of (answer s.now))) c5.old }
+    ensures c12 { c12.new ≡ filled (cents (payments_of (answer s.now))) c12.old }
+    ensures start { start.new ≡ filled (starts (payments_of (answer s.now))) start.old }
+{
+    let mut p = length::A;
+    // Where the next payment stands hangs on C18 of this one: the range counts them.
+    for row in 0..n {
+        let bank_code = known_number(s, p + at::C4, width::C4);
+        let account = known_number(s, p + at::C5, width::C5);
+        let amount = known_number(s, p + at::C12, width::C12);
+        let k = parts::count_at(s, p);
+        c4[row] = bank_code;
+        c5[row] = account;
+        c12[row] = amount;
+        start[row] = p as u64;
+        p += layout::bytes_of(k);
+    }
+}
+
 // Loads the payments of a file into four columns: C4, C5, C12, and the byte where the payment begins.
 pub fn load(s: &[u8], c4: &mut [u64], c5: &mut [u64], c12: &mut [u64], start: &mut [u64]) -> Checked
     ensures answer { result ≡ checked_of (loading (c4.old ∷ c5.old ∷ c12.old ∷ start.old ∷ []) (answer s.now)) }
@@ -126,7 +147,7 @@ pub fn load(s: &[u8], c4: &mut [u64], c5: &mut [u64], c12: &mut [u64], start: &m
     if !roomy {
         return Checked::from(fields::refuse(refusals::NO_ROOM, 0));
     }
-    fill_file(s, 0, 0, c4, c5, c12, start);
+    fill(s, n, c4, c5, c12, start);
     checked
 }
 
