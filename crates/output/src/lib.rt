@@ -53,15 +53,17 @@ pub fn put(out: &mut [u8], p: usize, t: &[u8], w: usize)
     out[p + n..p + w].fill(b' ');
 }
 
-// The bytes of t as they are, into the output from p on.
-#[tactic(auto, using(crate::proofs::OverLaws::part_over), unfolding(crate::specs::Writing::over_if_room))]
+// The bytes of t as they are, into the output from p on: byte by byte, since they are few and the library then calls no function of C for them.
+#[tactic(auto, using(crate::proofs::WritingLaws::writing_start, crate::proofs::WritingLaws::writing_end), unfolding(crate::specs::Writing::over_if_room))]
 pub fn copy(out: &mut [u8], p: usize, t: &[u8])
     ensures { out.new ≡ over_if_room p t.now out.old }
 {
     if !fields::whole(out.len(), p, t.len()) {
         return;
     }
-    out[p..p + t.len()].copy_from_slice(t);
+    for i in 0..t.len() {
+        out[p + i] = t[i];
+    }
 }
 
 // The last w digits of v, into the output from p on.
