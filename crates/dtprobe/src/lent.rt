@@ -13,7 +13,7 @@ const MOST_BYTES: usize = 65536;
 const MOST_ROWS: usize = 256;
 
 // The bytes of a number of a head line: a blank and six digits.
-const NUMBER: usize = 7;
+pub(crate) const NUMBER: usize = 7;
 
 // The largest number of six digits.
 const LARGEST: usize = 999999;
@@ -40,6 +40,16 @@ fn read_bytes<R: Read>(alloc: Global, reader: &mut R, n: usize) -> Result<Vec<u8
     Ok(read)
 }
 
+// The next N bytes of a request. Where the input ends before, the request is none.
+pub(crate) fn read_array<R: Read, const N: usize>(reader: &mut R) -> Result<[u8; N], NoRequest> {
+    let mut bytes = [0u8; N];
+    let n = reading::read_full(reader, &mut bytes)?;
+    if n < N {
+        return Err(NoRequest::Bad);
+    }
+    Ok(bytes)
+}
+
 // The next n rows of a column: each is a number in digits, or 0 where they are no digits.
 fn read_rows<R: Read>(alloc: Global, reader: &mut R, n: usize) -> Result<Vec<u64>, NoRequest>
     ensures { IfOk result (λ rows. vec_len rows ≡ n) }
@@ -55,31 +65,13 @@ fn read_rows<R: Read>(alloc: Global, reader: &mut R, n: usize) -> Result<Vec<u64
     Ok(rows)
 }
 
-// The next N bytes of a head line. Where the input ends before, the request is none.
-fn read_array<R: Read, const N: usize>(reader: &mut R) -> Result<[u8; N], NoRequest> {
-    let mut bytes = [0u8; N];
-    let n = reading::read_full(reader, &mut bytes)?;
-    if n < N {
-        return Err(NoRequest::Bad);
+// The numbers of a head line, behind its letter: each a blank and six digits.
+pub(crate) fn numbers_in(alloc: Global, line: &[u8]) -> Result<Vec<usize>, NoRequest> {
+    let mut numbers = Vec::with_capacity(alloc, line.len() / NUMBER)?;
+    for text in line.chunks_exact(NUMBER) {
+        let number = number_of(&text[1..]).ok_or(NoRequest::Bad)?;
+        numbers.push(number as usize)?;
     }
-    Ok(bytes)
-}
-
-// The next number of a head line, and the blank before it.
-fn read_number<R: Read>(reader: &mut R) -> Result<usize, NoRequest> {
-    let text: [u8; NUMBER] = read_array(reader)?;
-    let number = number_of(&text[1..]).ok_or(NoRequest::Bad)?;
-    Ok(number as usize)
-}
-
-// So many numbers of a head line, and the line end.
-pub(crate) fn read_numbers<R: Read>(
-    alloc: Global,
-    reader: &mut R,
-    count: usize,
-) -> Result<Vec<usize>, NoRequest> {
-    let numbers = (0..count).map(|_| read_number(reader)).try_collect(alloc)?;
-    let _line_end: [u8; 1] = read_array(reader)?;
     Ok(numbers)
 }
 

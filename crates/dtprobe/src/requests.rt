@@ -1,14 +1,14 @@
 // Reading a request: its head line, the input, and what the slices hold that it lends.
-use crate::lent::{Columns, Source, Table, read_numbers};
+use crate::lent::{Columns, NUMBER, Source, Table, numbers_in, read_array};
 use finder::Wanted;
-use std::alloc::{AllocError, Global};
+use std::alloc::{AllocError, AllocFailed, Global};
 use std::io;
 use std::io::Read;
 
-// How many numbers a head line has, and one for a call over media.
-const NUMBERS: usize = 5;
+// The bytes of a head line behind its letter: five numbers, for a call over media twelve, and the line end.
+const LINE: usize = 5 * NUMBER + 1;
 
-const MEDIUM_NUMBERS: usize = 12;
+const MEDIUM_LINE: usize = 12 * NUMBER + 1;
 
 // Why there is no request: there is none of that form, or reading it failed.
 #[derive(Debug, Drop)]
@@ -26,6 +26,12 @@ impl From<io::Error> for NoRequest {
 impl From<AllocError> for NoRequest {
     fn from(e: AllocError) -> NoRequest {
         NoRequest::Failed(io::Error::from(e))
+    }
+}
+
+impl<T: Drop> From<AllocFailed<T>> for NoRequest {
+    fn from(e: AllocFailed<T>) -> NoRequest {
+        NoRequest::from(AllocError::from(e))
     }
 }
 
@@ -90,11 +96,16 @@ impl Request {
             return Ok(None);
         }
         let [letter] = letter;
-        let count = match letter {
-            b'N' | b'O' => MEDIUM_NUMBERS,
-            _ => NUMBERS,
+        let numbers = match letter {
+            b'N' | b'O' => {
+                let line: [u8; MEDIUM_LINE] = read_array(reader)?;
+                numbers_in(alloc, &line)?
+            }
+            _ => {
+                let line: [u8; LINE] = read_array(reader)?;
+                numbers_in(alloc, &line)?
+            }
         };
-        let numbers = read_numbers(alloc, reader, count)?;
         let mut source = Source::new(alloc, reader, numbers);
         let input = source.bytes()?;
         let call = Call::read(letter, &mut source)?;
