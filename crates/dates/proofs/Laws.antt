@@ -2,7 +2,7 @@
 -- A number that was read in so many digits is below ten to their number, so the day that the code takes from its last digits is the day that the
 -- whole number names (`names_made`). Of the day of execution the code keeps blanks or a number, as the form does (`maybe_is`); each case that it
 -- can be in comes to what the rules of A11b come to there (`dated`).
-use Rattle.std.proofs.Common.{◌≡◌, ℕ, ◌+◌, ◌%◌, ◌^◌, List, Option, Some, None, Ok, Err, refl, sym, ap, ◌∙◌}
+use Rattle.std.proofs.Common.{◌≡◌, ℕ, ◌+◌, ◌%◌, ◌^◌, List, Option, Some, None, Ok, Err, refl, ap, ◌∙◌}
 use Rattle.std.proofs.Math.Option as math
 use native.Mathlib.Nat.{mod-eq_of_lt}
 use Rattle.form.specs.Kind.{digits, maybe}
@@ -17,10 +17,9 @@ use Rattle.calendar.specs.declared.Day.{Day}
 use Rattle.calendar.specs.declared.DateCase.{DateCase}
 use Rattle.calendar.specs.declared.DateCase.TheVariants.{InOrder, NoSuchDay, TooEarly, TooLate}
 use Rattle.calendar.specs.Days.{day_of, day_from, case_from}
-use Rattle.fields.specs.Answers.{refusal_of, Reading, of_field, numbers, or_none, maybe_numbers}
-use Rattle.fields.proofs.AnswerLaws.{number_is}
+use Rattle.fields.specs.Answers.{refusal_of, Reading, of_field, numbers, maybe_numbers}
+use Rattle.fields.proofs.AnswerLaws.{number_is, blank_is, some_is}
 use Rattle.fields.proofs.LeafLaws.{field_broken, field_holds}
-use Rattle.fields.proofs.WalkLaws.{stands}
 use Rattle.dates.specs.declared.Execution.{Execution}
 use Rattle.dates.specs.declared.Execution.TheVariants.{Absent, On}
 use Rattle.dates.specs.Dates.{executions}
@@ -42,10 +41,6 @@ abbrev pub read_as : Option ℕ → math.Option ℕ
 read_as None = math.none
 read_as (Some n) = math.some n
 
-there_back : (v : math.Option ℕ) → read_as (or_none v) ≡ v
-there_back math.none = refl
-there_back (math.some n) = refl
-
 -- what each case of a date comes to: the day d and the place q behind it, or the refusal at p
 abbrev pub comes_to : DateCase → Day → ℕ → ℕ → Reading (Execution × ℕ)
 comes_to InOrder d p q = Ok (On d, q)
@@ -56,9 +51,12 @@ comes_to TooLate d p q = Err (refusal_of 23 p)
 module _ (made : document.Day) (f : List ℕ) (p : ℕ) {x : Option ℕ} {q : ℕ}
     (told : ◌≡◌ {A = Reading (Option ℕ × ℕ)} (Ok (x, q)) (of_field maybe_numbers p (p + 8) (look_at (maybe 8) f p))) where
   maybe_is : (look_at (maybe 8) f p ≡ has (read_as x)) × (q ≡ p + 8)
-  maybe_is =
-      let s = stands maybe_numbers p (p + 8) (look_at (maybe 8) f p) told refl in
-      (s.content ∙ ap has (sym (ap (λ (y : Option ℕ × ℕ). read_as y.0) s.given ∙ there_back s.value)), ap (λ (y : Option ℕ × ℕ). y.1) s.given)
+  maybe_is = by x told
+    where
+      by : (y : Option ℕ) → ◌≡◌ {A = Reading (Option ℕ × ℕ)} (Ok (y, q)) (of_field maybe_numbers p (p + 8) (look_at (maybe 8) f p))
+          → (look_at (maybe 8) f p ≡ has (read_as y)) × (q ≡ p + 8)
+      by None t = blank_is p (p + 8) (look_at (maybe 8) f p) t refl
+      by (Some n) t = some_is p (p + 8) (look_at (maybe 8) f p) t refl
 
   -- blanks
   pub undated : x ≡ None

@@ -2,18 +2,19 @@
 -- Each way out of a leaf has its law, by opening the reader at a place: not whole, the wrong bytes, the right ones (`leaf_short`, `leaf_wrong`,
 -- `leaf_right`), and with rules refused by its bytes, a rule broken, all kept (`field_fails`, `field_broken`, `field_holds`). Where the code
 -- tests that every byte is a blank or a zero, the form compares with a row of them: the two agree by induction over the bytes (`same_fill`).
-use Rattle.std.proofs.Common.{◌≡◌, ℕ, ◌+◌, ◌≤◌, Bool, true, false, Ok, Err, eqb, leb, List, [], ◌∷◌, length, take, drop, replicate, sym, refl, arith, length-drop, length-take-le, eq-eqb, ne_eqb, eqb-true, leb-false, leb-true}
+use Rattle.std.proofs.Common.{◌≡◌, ℕ, ◌+◌, ◌≤◌, Bool, true, false, Ok, Err, eqb, leb, List, [], ◌∷◌, length, take, drop, replicate, sym, refl, ap, ◌∙◌, arith, length-drop, length-take-le, eq-eqb, ne_eqb, eqb-true, leb-false, leb-true}
 use borrow.Author.Tests.{eqb-false}
 use Rattle.form.specs.Kind.{Kind, fixed, digits, maybe, Value, width, every, same}
 use Rattle.form.specs.Form.{Rule}
-use Rattle.form.specs.Reader.{Reason, short, not_fixed, not_sign, breaks, has, lacks, if_so, if_whole, optional, judge, obey}
+use Rattle.form.specs.Reader.{Reason, Look, short, not_fixed, not_sign, breaks, has, lacks, if_so, optional, judge, obey}
 use Rattle.form.specs.Place.{look_at, field_at}
 use Rattle.document.specs.Signs.{sign}
-use Rattle.diskette.specs.Fields.{text27}
+use Rattle.diskette.specs.Fields.{text27, rules_of_names}
 use Rattle.verdict.specs.Verdicts.{number_of}
 use Rattle.fields.specs.declared.Refusal.{Refusal}
 use Rattle.fields.specs.Answers.{refusal_of, refusal_at, Reading, Telling, of_field, passings, numbers}
-use Rattle.fields.proofs.WalkLaws.{Fails, fails}
+use Rattle.fields.specs.Stretches.{signs_of, texts}
+use Rattle.fields.proofs.WalkLaws.{Fails, fails, stands}
 use Rattle.fields.proofs.AnswerLaws.{number_is}
 
 -- two comparisons that hold together
@@ -90,19 +91,6 @@ module _ (s : List ℕ) (p : ℕ) (e : leb (p + 27) (length s) ≡ true) where
   unfolding judge
   text_has i = rw (is_whole text27 s p 27 refl e, i)
 
--- a text that was passed is whole, it is the 27 bytes from p on, and behind it is p + 27
-pub text_passed : (s : List ℕ) (p : ℕ) {q : ℕ} → ◌≡◌ {A = Reading ℕ} (Ok q) (of_field passings p (p + 27) (look_at text27 s p))
-    → (p + 27 ≤ length s) × (look_at text27 s p ≡ has (take 27 (drop p s))) × (q ≡ p + 27)
-unfolding look_at judge of_field
-text_passed s p {q} told = by (leb (p + 27) (length s)) (every sign (take 27 (drop p s))) refl refl told
-  where
-    by : (b e : Bool) → leb (p + 27) (length s) ≡ b → every sign (take 27 (drop p s)) ≡ e
-        → ◌≡◌ {A = Reading ℕ} (Ok q) (of_field passings p (p + 27) (if_whole b (if_so e (take 27 (drop p s)) not_sign)))
-        → (p + 27 ≤ length s) × (if_whole (leb (p + 27) (length s)) (if_so (every sign (take 27 (drop p s))) (take 27 (drop p s)) not_sign) ≡ has (take 27 (drop p s))) × (q ≡ p + 27)
-    by true true b e t = (leb-true (p + 27) (length s) b, rw (b, e), cc)
-    by true false b e t = absurd cc
-    by false e b i t = absurd cc
-
 -- ---- then the rules
 
 module _ {T : Type 0} (κ : Kind) (t : Telling (Value κ) T) (rs : Value κ → List Rule) (f : List ℕ) (p q : ℕ) where
@@ -134,3 +122,32 @@ module _ {T : Type 0} (w : ℕ) (t : Telling ℕ T) (rs : ℕ → List Rule) (f 
     ruled_kept kept =
         let s = number_is p n (look_at (digits w) f p) told refl in
         rw (s.1) (field_holds (digits w) t rs f p n s.0 kept)
+
+-- ---- a text, by what its leaf tells: whether it is blank
+
+module _ (f : List ℕ) (p n : ℕ) where
+  pub text_refused : {r : Refusal} → ◌≡◌ {A = Reading (Bool × ℕ)} (Err r) (of_field texts p n (look_at text27 f p)) → Err r ≡ of_field passings p n (look_at text27 f p)
+  unfolding of_field
+  text_refused {r} told = by (look_at text27 f p) told
+    where
+      by : (l : Look (List ℕ)) → ◌≡◌ {A = Reading (Bool × ℕ)} (Err r) (of_field texts p n l) → Err r ≡ of_field passings p n l
+      by (has v) e = absurd cc
+      by (lacks z) e = let i : r ≡ refusal_at z p = cc in rw i
+
+  module _ {b : Bool} {q : ℕ} (told : ◌≡◌ {A = Reading (Bool × ℕ)} (Ok (b, q)) (of_field texts p n (look_at text27 f p))) where
+    pub text_kept : Ok q ≡ of_field passings p n (look_at text27 f p)
+    unfolding of_field
+    text_kept = let s = stands texts p n (look_at text27 f p) told refl in rw (ap (λ (x : Bool × ℕ). x.1) s.given, s.content)
+
+    is_blank : (v : List ℕ) × (look_at text27 f p ≡ has v) × (q ≡ n) × (every (λ x. eqb x 0x20) v ≡ b)
+    unfolding signs_of
+    is_blank =
+        let s = stands texts p n (look_at text27 f p) told refl in
+        (s.value, s.content, ap (λ (x : Bool × ℕ). x.1) s.given, sym (ap (λ (x : Bool × ℕ). x.0) s.given))
+
+    -- a name is a text that is not blank
+    pub name_broken : b ≡ true → Err (refusal_of 11 p) ≡ of_field passings p n (field_at text27 rules_of_names f p)
+    name_broken e = field_broken text27 passings rules_of_names f p n is_blank.1 (rw (is_blank.3 ∙ e))
+
+    pub name_kept : b ≡ false → Ok q ≡ of_field passings p n (field_at text27 rules_of_names f p)
+    name_kept e = rw is_blank.2 (field_holds text27 passings rules_of_names f p n is_blank.1 (rw (is_blank.3 ∙ e)))

@@ -9,7 +9,7 @@ ghost use Rattle.document.specs.Signs.{zeros, sign};
 ghost use Rattle.document.specs.Rules.{file_kinds};
 ghost use Rattle.diskette.specs.Fields.{text27, rules_of_names};
 ghost use Rattle.fields.specs.Answers.{refusal_of, why, of_field, passings, numbers, maybe_numbers, kinds};
-ghost use Rattle.fields.specs.Stretches.{widest, digits_of, number_in};
+ghost use Rattle.fields.specs.Stretches.{widest, digits_of, number_in, signs_of, texts};
 
 use layout::width;
 use verdict::Verdict;
@@ -133,22 +133,32 @@ fn is_sign(b: u8) -> bool
         | (b == b'~')
 }
 
+// Whether all bytes of a text are permitted signs, and whether all are blanks.
+#[derive(Clone, Copy)]
+struct Signs {
+    permitted: bool,
+    blank: bool,
+}
+
 // A text is tested in two halves of 16 bytes, which share five: so each half is one step of a processor's vector unit.
 const HALF: usize = 16;
 
 const SECOND_HALF: usize = width::TEXT - HALF;
 
-// Whether all bytes of a text are permitted signs.
 #[inline(always)]
-fn are_signs(f: &[u8]) -> bool
+fn signs_of(f: &[u8]) -> Signs
     requires { length f.now ≡ 27 }
-    ensures { result ≡ every sign f.now }
+    ensures { result ≡ signs_of f.now }
 {
     let mut permitted = true;
+    let mut blank = true;
     for i in 0..HALF {
-        permitted = permitted & (is_sign(f[i]) & is_sign(f[i + SECOND_HALF]));
+        let b = f[i];
+        let c = f[i + SECOND_HALF];
+        permitted = permitted & (is_sign(b) & is_sign(c));
+        blank = blank & ((b == b' ') & (c == b' '));
     }
-    permitted
+    Signs { permitted, blank }
 }
 
 // Each leaf takes its stretch of the file itself. Handed back in a `Result` the stretch has a width that the compiler does not know, and the check
@@ -243,18 +253,28 @@ pub fn maybe_number_at(s: &[u8], p: usize, w: usize) -> Reading<(Option<u64>, us
     Ok((Some(v), p + n))
 }
 
+// A text of 27 signs at p, and whether all of them are blanks: both are told by looking at it once.
+#[inline(always)]
+fn signs_at(s: &[u8], p: usize) -> Reading<(bool, usize)>
+    ensures { result ≡ of_field texts p (p + 27) (look_at text27 s.now p) }
+{
+    if !whole(s.len(), p, width::TEXT) {
+        return Err(refuse(refusals::SHORT, p));
+    }
+    let signs = signs_of(&s[p..p + width::TEXT]);
+    if !signs.permitted {
+        return Err(refuse(refusals::NO_SIGN, p));
+    }
+    Ok((signs.blank, p + width::TEXT))
+}
+
 // A text of 27 signs at p.
 #[inline(always)]
 pub fn text_at(s: &[u8], p: usize) -> Reading<usize>
     ensures { result ≡ of_field passings p (p + 27) (look_at text27 s.now p) }
 {
-    if !whole(s.len(), p, width::TEXT) {
-        return Err(refuse(refusals::SHORT, p));
-    }
-    if !are_signs(&s[p..p + width::TEXT]) {
-        return Err(refuse(refusals::NO_SIGN, p));
-    }
-    Ok(p + width::TEXT)
+    let (_, q) = signs_at(s, p)?;
+    Ok(q)
 }
 
 // A text of 27 signs at p, not all of them blanks.
@@ -262,8 +282,8 @@ pub fn text_at(s: &[u8], p: usize) -> Reading<usize>
 pub fn name_at(s: &[u8], p: usize) -> Reading<usize>
     ensures { result ≡ of_field passings p (p + 27) (field_at text27 rules_of_names s.now p) }
 {
-    let q = text_at(s, p)?;
-    if all_are(&s[p..p + width::TEXT], b' ') {
+    let (blank, q) = signs_at(s, p)?;
+    if blank {
         return Err(refuse(refusals::CONDITION, p));
     }
     Ok(q)

@@ -1,10 +1,9 @@
 -- The two stretches of A and the whole header as the steps in which the code reads them: a leaf's answer for each field, and what follows it.
 -- Of A3 the form goes on with the letters, and the code with the kind of file: since the letters are among the four words, they are those of the
 -- kind (`step_kind`), and the rule of A5 asks them.
-use Rattle.std.proofs.Common.{◌≡◌, ℕ, ◌+◌, List, [], Ok, refl}
+use Rattle.std.proofs.Common.{◌≡◌, ℕ, ◌+◌, List, [], Ok, Err, sym, refl, ◌∙◌}
 use Rattle.form.specs.Kind.{fixed, digits, maybe, choice, blanks}
 use Rattle.form.specs.Form.{Form, field, ret}
-use Rattle.form.specs.Reader.{Look, has, lacks}
 use Rattle.form.specs.Place.{look_at, field_at, read_at}
 use Rattle.document.specs.Signs.{ascii}
 use Rattle.document.specs.Calendar as calendar
@@ -13,6 +12,8 @@ use Rattle.diskette.specs.Fields.{Name, A3, text27, rules_a5, rules_a7, rules_a1
 use Rattle.calendar.specs.Days.{day_of}
 use Rattle.fields.specs.declared.FileKind.{FileKind}
 use Rattle.fields.specs.Answers.{Reading, Telling, of_field, of_read, passings, numbers, kind_of, letters_of, kinds}
+use Rattle.fields.proofs.AnswerLaws.{kind_is}
+use Rattle.fields.proofs.WalkLaws.{start, past, stop}
 use Rattle.fields.proofs.StepLaws.{Gives, at_end, onward, step, step_part, step_ruled}
 use Rattle.dates.specs.Dates.{days, executions}
 use Rattle.header.specs.declared.Header.{Header}
@@ -27,13 +28,14 @@ use Rattle.header.proofs.Laws.{letters_back}
 module _ {A T : Type 0} {t : Telling A T} {f : List ℕ} {next : List ℕ → Form Name A} {p : ℕ} (k : FileKind × ℕ → Reading T)
     (follows : (letters : List ℕ) → letters_of (kind_of letters) ≡ letters → Gives t f (next letters) (p + 2) (k (kind_of letters, p + 2))) where
   step_kind : Gives t f (field A3 (choice 2 file_kinds) (λ v. []) next) p (onward (of_field kinds p (p + 2) (look_at (choice 2 file_kinds) f p)) k)
-  unfolding read_at of_read of_field
-  step_kind = record { is = by (look_at (choice 2 file_kinds) f p) refl }
+  step_kind = record { is = by (of_field kinds p (p + 2) (look_at (choice 2 file_kinds) f p)) refl }
     where
-      by : (l : Look (List ℕ)) → look_at (choice 2 file_kinds) f p ≡ l
-          → of_read t (read_at (field A3 (choice 2 file_kinds) (λ v. []) next) f p) ≡ onward (of_field kinds p (p + 2) l) k
-      by (has letters) e = rw e (follows letters (letters_back letters f p e)).is
-      by (lacks z) e = rw e
+      by : (a : Reading (FileKind × ℕ)) → a ≡ of_field kinds p (p + 2) (look_at (choice 2 file_kinds) f p)
+          → of_read t (read_at (field A3 (choice 2 file_kinds) (λ v. []) next) f p) ≡ onward a k
+      by (Ok (x, q)) told =
+          let i = kind_is p (p + 2) (look_at (choice 2 file_kinds) f p) told refl in
+          rw (i.2, i.3) ((past (start (field A3 (choice 2 file_kinds) (λ v. []) next) p) (i.1, refl)).owed ∙ (follows i.0 (letters_back i.0 f p i.1)).is)
+      by (Err r) told = sym (stop kinds (p + 2) (start (field A3 (choice 2 file_kinds) (λ v. []) next) p) told refl)
 
 -- what the code answers, step by step
 abbrev pub opening_told : List ℕ → ℕ → Reading (opened.Opening × ℕ)

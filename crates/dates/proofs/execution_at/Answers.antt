@@ -4,9 +4,8 @@ use Rattle.std.proofs.lemmas.Result.{err_from_is_err_and}
 use Rattle.form.specs.Kind.{maybe}
 use Rattle.diskette.specs.Fields.{rules_a11b}
 use Rattle.calendar.specs.Days.{day_of}
-use Rattle.fields.specs.Answers.{maybe_numbers}
+use Rattle.fields.proofs.AnswerLaws.{maybe_fails}
 use Rattle.fields.proofs.LeafLaws.{field_fails}
-use Rattle.fields.proofs.WalkLaws.{fails}
 use Rattle.dates.specs.Dates.{executions}
 use Rattle.dates.proofs.Laws.{dated, undated}
 use Rattle.dates.proofs.execution_at.Goals as goal
@@ -15,7 +14,7 @@ pub returns-in_err-date : goal.returns-in_err-date
 returns-in_err-date c =
     let a = c.args in
     let p = err_from_is_err_and c.from_residual.result c.from_residual.ensures.1 in
-    rw (p.1, p.2) (field_fails (maybe 8) executions (rules_a11b (day_of a.made)) a.s.now a.p _ (fails maybe_numbers _ _ _ c.in_err-date.ensures refl))
+    rw (p.1, p.2) (field_fails (maybe 8) executions (rules_a11b (day_of a.made)) a.s.now a.p _ (maybe_fails _ _ _ c.in_err-date.ensures refl))
 
 pub returns-in_default : goal.returns-in_default
 returns-in_default c = let a = c.args in undated (day_of a.made) a.s.now a.p c.in_ok-date.ensures c.in_default.is

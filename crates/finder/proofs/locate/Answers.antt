@@ -1,6 +1,6 @@
 -- finder::locate meets its contract: the check's refusal, 19, or where the text stands in the payment that begins there.
 -- There is no loop. Each return is a case of `locate_at`, by the law of SpotLaws for it, from the check's answer and from what `begins`,
--- `count_at` and `has_text` have told. Where the payment has the text, `Located` says all that is left: the longest payment has it too, which
+-- `count_at` and `has_text` have told. Where the payment has the text, `Located` says what is left besides: the longest payment has it too, which
 -- `text_place` asks for, and it ends in the file, so that neither addition wraps.
 use Prim.Native.Nat.{◌+◌}
 use native.Mathlib.Omega.{arith}
@@ -8,7 +8,7 @@ use mathlib.Core.Path.{sym, ap, ◌∙◌}
 use Rattle.loader.proofs.LoadLaws.{count_is}
 use Rattle.finder.specs.Texts.{text_width}
 use Rattle.finder.specs.Spots.{nowhere, standing}
-use Rattle.finder.proofs.SpotLaws.{locate_refused, locate_none, locate_no_text, Located, located}
+use Rattle.finder.proofs.SpotLaws.{locate_refused, locate_none, locate_no_text, locate_text, Located, located}
 use Rattle.finder.proofs.locate.Goals as goal
 use Rattle.finder.proofs.locate.Goals.{Else-not-has_text}
 
@@ -31,7 +31,7 @@ returns-then-not-has_text c =
     ∙ locate_no_text _ c.check-checked.ensures c.if-checked-ne0.false _ _ (sym c.begins.ensures ∙ c.if-not-begins.false) c.count_at-k.ensures
     (sym c.has_text.ensures ∙ c.if-not-has_text.true)
 
--- what both additions, the last call and the result rest on
+-- what both additions and the last call rest on
 there : (c : Else-not-has_text) → Located c.args.s.now c.args.start c.args.w
 there c =
     let begun = sym c.begins.ensures ∙ c.if-not-begins.false in
@@ -48,5 +48,7 @@ overflow_add-result c = let l = there (goal.at.overflow_add-result c).Else-not-h
 
 pub returns : goal.returns
 returns c =
-    let l = there (goal.at.returns c).Else-not-has_text in
-    ap (λ n. standing (c.args.start + n) (c.args.start + n + text_width)) c.text_place.ensures ∙ l.is
+    let a = c.args in
+    let begun = sym c.begins.ensures ∙ c.if-not-begins.false in
+    ap (λ n. standing (a.start + n) (a.start + n + text_width)) c.text_place.ensures
+    ∙ locate_text a.s.now c.check-checked.ensures c.if-checked-ne0.false a.start a.w begun c.count_at-k.ensures (sym c.has_text.ensures ∙ c.if-not-has_text.false)
