@@ -5,7 +5,6 @@ ghost use Rattle.std.specs.Prelude.{◌≡◌, take, IfSome, OnOk};
 ghost use Rattle.std.specs.Io.KnownBytes.{Appends};
 ghost use Rattle.reply.specs.Reply.{make_reply};
 
-use std::alloc::Global;
 use std::io;
 use std::io::{Read, Write};
 
@@ -22,16 +21,18 @@ fn print<W: Write>(writer: &mut W, input: &[u8], reply: &[u8]) -> io::Result<()>
 
 // Prints the reply to what the reader gives. dtlist has these lines with `reply::list`: one function for both would be passed the call, and would
 // have to require that it may be called, but no function requires anything of another crate; a trait over both is longer than these lines.
-fn serve<R: Read, W: Write>(alloc: Global, reader: &mut R, writer: &mut W) -> io::Result<()>
+fn serve<R: Read, W: Write>(reader: &mut R, writer: &mut W) -> io::Result<()>
     ensures { OnOk result (IfSome (R.remaining reader.old) (λ input. Appends (W.contents writer.old) (W.contents writer.new) (make_reply 65536 (take 65536 input)))) }
 {
-    let input = reading::read_up_to(alloc, reader, ROOM)?;
+    // An array and no vector, so that nothing can fail but a read or a write.
+    let mut input = [0u8; ROOM];
+    let n = reading::read_full(reader, &mut input)?;
     // The library has no heap: it writes into what it is lent, and gives back the length.
     let mut out = [0u8; ROOM];
-    let length = reply::make(&input, &mut out);
-    print(writer, &input, &out[..length])
+    let length = reply::make(&input[..n], &mut out);
+    print(writer, &input[..n], &out[..length])
 }
 
 fn main(rt: HostRuntime) -> io::Result<()> {
-    serve(rt.alloc(), &mut rt.stdin(), &mut rt.stdout())
+    serve(&mut rt.stdin(), &mut rt.stdout())
 }

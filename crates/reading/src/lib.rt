@@ -1,4 +1,5 @@
-// Reading from any reader until there is enough or the input ends. All that the programs read comes in through it.
+// Reading from any reader until there is enough or the input ends. All that the programs read comes in through it: dtlist and dtmake by
+// `read_full`, which cannot run out of memory, dtprobe by both.
 #![tactic(auto)]
 
 ghost use Rattle.std.specs.Prelude.{◌≡◌, ◌<◌, ◌≤◌, length, take, vec_len, IfOk, IfSome};

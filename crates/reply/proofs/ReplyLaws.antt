@@ -45,7 +45,7 @@ module _ (input old : List ℕ) (e : Ending) where
   print_too_long h = says_of old (reply_too_long (length old) input e h)
 
   module _ (h : length input ≤ 32768) {w : Written} {mid : List ℕ} (told : call.Says e old w mid) where
-    print_refused : w.verdict.number ≢ 0 → {r : ℕ} {new : List ℕ} → Says (fitting (length mid) (refusal_line w.verdict.number w.verdict.place)) mid r new
+    pub print_refused : w.verdict.number ≢ 0 → {r : ℕ} {new : List ℕ} → Says (fitting (length mid) (refusal_line w.verdict.number w.verdict.place)) mid r new
         → Says (reply (length old) input e) old r new
     print_refused n {r} {new} s = by (within (length old) e) refl
       where
@@ -58,7 +58,7 @@ module _ (input old : List ℕ) (e : Ending) where
             (subst (λ (y : Written). Says (fitting (length old) (refusal_line y.verdict.number y.verdict.place)) old r new) g
             (subst (λ (o : List ℕ). Says (fitting (length o) (refusal_line w.verdict.number w.verdict.place)) o r new) k s))
 
-    print_written : {bs : List ℕ} → e ≡ writes bs → length bs ≤ length old → Says (reply (length old) input e) old w.length mid
+    pub print_written : {bs : List ℕ} → e ≡ writes bs → length bs ≤ length old → Says (reply (length old) input e) old w.length mid
     print_written i l =
         let g = call.roomy (length old) i l in
         says_of old (reply_written (length old) input e h i l)

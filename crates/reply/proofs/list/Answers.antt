@@ -1,4 +1,5 @@
 -- reply::list meets its contract: an input too long is answered by a line, any other by how the call ends, which writes exactly where its number is 0.
+use native.Mathlib.Omega.{arith}
 use Rattle.diskette.specs.Answer.{answer}
 use Rattle.listing.specs.Endings.{listed}
 use Rattle.lister.proofs.ListingLaws.{listed_as}
@@ -11,7 +12,7 @@ pub returns-then-s-gt-LONGEST : goal.returns-then-s-gt-LONGEST
 returns-then-s-gt-LONGEST c =
     let a = c.args in
     let line = c.refusal_line.ensures in
-    let said = print_too_long a.s.now a.out.now (listed (answer a.s.now)) c.if-s-gt-LONGEST.true (line.answer, line.out) in
+    let said = print_too_long a.s.now a.out.now (listed (answer a.s.now)) (omega (arith, c.if-s-gt-LONGEST.true)) (line.answer, line.out) in
     record { answer = said.0; out = said.1 }
 
 pub returns : goal.returns

@@ -1,4 +1,5 @@
 -- reply::make meets its contract: an input too long is answered by a line, any other by how the call ends, which writes exactly where its number is 0.
+use native.Mathlib.Omega.{arith}
 use Rattle.listing.specs.Composing.{compose}
 use Rattle.listing.specs.Endings.{composed}
 use Rattle.listing.proofs.Promises.{composes_exactly}
@@ -12,7 +13,7 @@ pub returns-then-l-gt-LONGEST : goal.returns-then-l-gt-LONGEST
 returns-then-l-gt-LONGEST c =
     let a = c.args in
     let line = c.refusal_line.ensures in
-    let said = print_too_long a.l.now a.out.now (composed (compose a.l.now)) c.if-l-gt-LONGEST.true (line.answer, line.out) in
+    let said = print_too_long a.l.now a.out.now (composed (compose a.l.now)) (omega (arith, c.if-l-gt-LONGEST.true)) (line.answer, line.out) in
     record { answer = said.0; out = said.1 }
 
 pub returns : goal.returns
