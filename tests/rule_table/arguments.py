@@ -6,6 +6,8 @@ from statements.equations import outside
 from statements.sources import closing_of
 
 NAMED = re.compile(r"\s*(?:mut )?(\w+):")
+CLOSURE = re.compile(r"\|\w+\|\s*(.+)", re.DOTALL)
+CALL = re.compile(r"((?:\w+::)*\w+)\([^()]*\)")
 
 
 def passed(called: str, name: str, caller: str) -> dict[str, str]:
@@ -27,6 +29,18 @@ def parameters(function: str) -> list[str]:
         at += 1
     found = (NAMED.match(part) for part in inside(head, at))
     return [name[1] for name in found if name]
+
+
+def test_of(argument: str, caller: str) -> str:
+    """The test that a caller passes as this argument, a local being what its `let` names: a function; of a closure the
+    function that it calls, or else all that it says.
+    """
+    named = re.findall(rf"\blet {re.escape(argument)} = ([^;{{}}]+);", caller)
+    test = named[-1] if named else argument
+    if not (closure := CLOSURE.fullmatch(test)):
+        return test
+    call = CALL.fullmatch(closure[1])
+    return call[1] if call else " ".join(closure[1].split())
 
 
 def inside(text: str, at: int) -> list[str]:

@@ -6,8 +6,8 @@ from pathlib import Path
 from statements.calls import functions_of
 from statements.sources import HEAD, read_sources
 
-from .arguments import passed
-from .ways import ways_out
+from .arguments import passed, test_of
+from .ways import cut_at_body, ways_out
 
 # A goal of a way out that a proof answers, without the clause that it may be of.
 ANSWERED = re.compile(r"^pub (returns(?:-(?!clause-)[^\s-]+)*)", re.MULTILINE)
@@ -55,6 +55,13 @@ class Functions:
         """What a caller passes to a function for the parameters that stand at a way out of it."""
         given = passed(self.texts[path], path.rpartition("::")[2], self.texts.get(caller, ""))
         return " ".join(given[name] for name in given if re.search(rf"\b{name}\b", way))
+
+    def tests_passed(self, path: str, caller: str) -> list[str]:
+        """The tests that a caller passes to a function, for those of its parameters that it calls."""
+        function, code = self.texts[path], self.texts.get(caller, "")
+        given = passed(function, path.rpartition("::")[2], code)
+        called = [name for name in given if re.search(rf"(?<![\w:.]){name}\(", cut_at_body(function)[1])]
+        return [test_of(given[name].strip(), code) for name in called]
 
     def numbers_in(self, text: str) -> set[int]:
         """The numbers whose names stand in a text."""

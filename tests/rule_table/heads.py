@@ -42,5 +42,15 @@ def faults_of_functions(block: Block, functions: Functions) -> list[str]:
     faults += [f"there is no function {path}" for path in missing]
     faults += [f"{block.tested} is proved at {goal}, which is none of its ways out"
                for goal in functions.answered(block.tested) if not functions.has_fact(block.tested, goal)]
-    return faults + [f"{one} does not call {other}" for one, other in calls
-                     if not {one, other} & set(missing) and not functions.calls(one, other)]
+    faults += [f"{one} does not call {other}" for one, other in calls
+               if not {one, other} & set(missing) and not functions.calls(one, other)]
+    return faults + faults_of_test(block, functions)
+
+
+def faults_of_test(block: Block, functions: Functions) -> list[str]:
+    """Each function that calls the one that tests passes it the test that is named; none where none is."""
+    callers = [caller for caller in block.calling
+               if functions.has(block.tested) and functions.calls(caller, block.tested)]
+    passed = {caller: ", ".join(functions.tests_passed(block.tested, caller)) for caller in callers}
+    return [f"{caller} passes the test '{test}' to {block.tested}, not '{block.test}'"
+            for caller, test in passed.items() if test != block.test]

@@ -9,7 +9,7 @@ SECTION = re.compile(r"^### (.+)\n((?:(?!#).*\n)*)", re.MULTILINE)
 PARAGRAPH = re.compile(r"(?:.+\n)+")
 HEAD = re.compile(r"\s*`(.+)`,(?: (\d+) bytes?)? at (\d+)\b")
 CALLED = r", called (?:through `([\w:]+)` )?in (`[\w:]+`(?: and `[\w:]+`)*)"
-TESTED = re.compile(rf"Tested by `([\w:]+)`(?:{CALLED})?\.")
+TESTED = re.compile(rf"Tested by `([\w:]+)`(?: with `([^`]+)`)?(?:{CALLED})?\.")
 ROW = re.compile(r"\| (\d+) \| [^|]+ \| `([^|]+)` \| `([^|]+)` \| ((?:claim )?`[^|]+`) \| `([^|]+)` \|")
 ABOVE_ROWS = re.compile(r"\| no\. \|.*|[|-]+")
 
@@ -28,16 +28,23 @@ class Row:
 
 @dataclass(frozen=True)
 class Block:
-    """A function that tests, the one that it is called through, those that call it, and the rows below.
+    """A function that tests, the test that it is passed, the function that it is called through, those that call it, and
+    the rows below.
 
     The strays are the lines of the table that have not the form of a row.
     """
 
     tested: str
+    test: str
     through: str
     callers: tuple[str, ...]
     rows: list[Row]
     strays: list[int]
+
+    @property
+    def calling(self) -> tuple[str, ...]:
+        """Those that call the function that tests by themselves."""
+        return (self.through,) if self.through else self.callers
 
 
 @dataclass(frozen=True)
@@ -75,11 +82,11 @@ def read_section(title: str, text: str, line: int) -> Section:
     blocks = []
     for paragraph in PARAGRAPH.finditer(text):
         if paragraph[0].startswith("|"):
-            blocks = blocks or [Block("", "", (), [], [])]
+            blocks = blocks or [Block("", "", "", (), [], [])]
             read_rows(paragraph[0], line + line_at(text, paragraph.start()) - 1, blocks[-1])
         elif tested := TESTED.search(" ".join(paragraph[0].split())):
-            callers = re.findall(r"`([^`]+)`", tested[3] or "")
-            blocks.append(Block(tested[1], tested[2] or "", tuple(callers), [], []))
+            callers = re.findall(r"`([^`]+)`", tested[4] or "")
+            blocks.append(Block(tested[1], tested[2] or "", tested[3] or "", tuple(callers), [], []))
     head = HEAD.match(text)
     quoted, width, place = head.groups() if head else ("", None, None)
     return Section(title, quoted, number(width), number(place), blocks)

@@ -53,8 +53,7 @@ def fact_faults(row: Row, block: Block, names: Names, may_hand_on: bool) -> list
     functions = names.functions
     if not functions.has_fact(block.tested, row.fact):
         return [f"{row.fact} is no fact in the proof of {block.tested}"]
-    callers = (block.through,) if block.through else block.callers
-    if row.number in functions.gives(block.tested, row.fact, callers):
+    if row.number in functions.gives(block.tested, row.fact, block.calling):
         return []
     if may_hand_on and row.number in functions.hands_on(block.tested, row.fact):
         return []

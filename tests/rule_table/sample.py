@@ -308,7 +308,7 @@ Tested by `fields::fixed_at`, called through `fields::blanks_at` in
 ### E2
 
 `get E2 (digits 7) (figure t.count)`, 7 bytes at 4.
-Tested by `checker::tested_at`, called through `checker::figure_at` in
+Tested by `checker::tested_at` with `v == counted`, called through `checker::figure_at` in
 `checker::file_at`.
 
 | no. | the requirements | rule | proved as | case | wrong edit |

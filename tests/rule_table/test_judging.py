@@ -144,6 +144,30 @@ class TestHeads(RulesTest):
         fault = f"{TABLE}: closing: fields::number_at does not call fields::fixed_at"
         self.assert_faults(TABLE, "through `fields::blanks_at`", "through `fields::number_at`", fault)
 
+    def test_another_test_than_the_one_passed(self) -> None:
+        fault = f"{TABLE}: E2: checker::figure_at passes the test '{{}}' to checker::tested_at, not '{{}}'"
+        for other in ("v != counted", "v == most", "not_zero"):
+            faults = [fault.format("v == counted", other)]
+            self.assert_faults(TABLE, "with `v == counted`", f"with `{other}`", *faults)
+        self.assert_faults(TABLE, " with `v == counted`", "", fault.format("v == counted", ""))
+
+    def test_a_test_that_is_passed_otherwise(self) -> None:
+        fault = f"{TABLE}: E2: checker::figure_at passes the test '{{}}' to checker::tested_at, not 'v == counted'"
+        for other, test in (("not_zero", "not_zero"), ("|v| v != counted", "v != counted"), ("|v| ok(t, v)", "ok"),
+                            ("|v| !ok(t, v)", "!ok(t, v)")):
+            self.assert_faults("crates/checker/src/lib.rt", "|v| v == counted", other, fault.format(test))
+
+    def test_a_test_that_a_local_names(self) -> None:
+        code, call = "crates/checker/src/lib.rt", "tested_at(s, p, 7, refusals::NOT_COUNTED, "
+        old, passed = f"{call}|v| v == counted)", f"{call}fits)"
+        self.assert_faults(code, old, f"let fits = |v| v == counted;\n    {passed}")
+        fault = f"{TABLE}: E2: checker::figure_at passes the test 'ok' to checker::tested_at, not 'v == counted'"
+        self.assert_faults(code, old, f"let fits = |v| ok(v);\n    {passed}", fault)
+
+    def test_a_test_where_none_is_passed(self) -> None:
+        fault = f"{TABLE}: A2: checker::file_at passes the test '' to checker::day_at, not 'is_day'"
+        self.assert_faults(TABLE, "Tested by `checker::day_at`", "Tested by `checker::day_at` with `is_day`", fault)
+
     def test_a_way_out_that_the_proof_names_otherwise(self) -> None:
         fault = "fields::fixed_at is proved at returns-then-s, which is none of its ways out"
         faults = [f"{TABLE}: {name}: {fault}" for name in ("A1", "closing")]
