@@ -28,8 +28,8 @@ class Row:
 
 @dataclass(frozen=True)
 class Block:
-    """A function that tests, the test that it is passed, the function that it is called through, those that call it, and
-    the rows below.
+    """A function that tests, the test that it is passed, the one that it is called through, those that call it, and the
+    rows below.
 
     The strays are the lines of the table that have not the form of a row.
     """
