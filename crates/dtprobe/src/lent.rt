@@ -4,13 +4,15 @@ ghost use Rattle.std.specs.Prelude.{◌≡◌, vec_len, IfOk};
 use crate::requests::NoRequest;
 use std::alloc::Global;
 use std::io::Read;
-use std::vec::IntoIter;
 
 // The most bytes of an input, and of a lent output.
 const MOST_BYTES: usize = 65536;
 
 // The most rows of a column.
 const MOST_ROWS: usize = 256;
+
+// The most numbers of a head line.
+pub(crate) const MOST_NUMBERS: usize = 12;
 
 // The bytes of a number of a head line: a blank and six digits.
 pub(crate) const NUMBER: usize = 7;
@@ -50,27 +52,31 @@ pub(crate) fn read_array<R: Read, const N: usize>(reader: &mut R) -> Result<[u8;
     Ok(bytes)
 }
 
-// The next n rows of a column: each is a number in digits, or 0 where they are no digits.
+// The next row of a column: a number in digits, or 0 where they are no digits.
+fn read_row<R: Read>(reader: &mut R) -> Result<u64, NoRequest> {
+    let digits: [u8; ROW] = read_array(reader)?;
+    Ok(number_of(&digits).unwrap_or(0))
+}
+
+// The next n rows of a column.
 fn read_rows<R: Read>(alloc: Global, reader: &mut R, n: usize) -> Result<Vec<u64>, NoRequest>
     ensures { IfOk result (λ rows. vec_len rows ≡ n) }
 {
     if n > MOST_ROWS {
         return Err(NoRequest::Bad);
     }
-    let digits = read_bytes(alloc, reader, n * ROW)?;
-    let rows = digits
-        .chunks_exact(ROW)
-        .map(|row| number_of(row).unwrap_or(0))
-        .collect(alloc)?;
+    let mut rows = vec![in alloc; 0u64; n]?;
+    for row in &mut rows {
+        *row = read_row(reader)?;
+    }
     Ok(rows)
 }
 
-// The numbers of a head line, behind its letter: each a blank and six digits.
-pub(crate) fn numbers_in(alloc: Global, line: &[u8]) -> Result<Vec<usize>, NoRequest> {
-    let mut numbers = Vec::with_capacity(alloc, line.len() / NUMBER)?;
-    for text in line.chunks_exact(NUMBER) {
-        let number = number_of(&text[1..]).ok_or(NoRequest::Bad)?;
-        numbers.push(number as usize)?;
+// The numbers of a head line, behind its letter: each a blank and six digits. Those that it does not have are 0, and no call asks for them.
+pub(crate) fn numbers_in(line: &[u8]) -> Result<[usize; MOST_NUMBERS], NoRequest> {
+    let mut numbers = [0; MOST_NUMBERS];
+    for (number, text) in numbers.iter_mut().zip(line.chunks_exact(NUMBER)) {
+        *number = number_of(&text[1..]).ok_or(NoRequest::Bad)? as usize;
     }
     Ok(numbers)
 }
@@ -80,20 +86,28 @@ pub(crate) fn numbers_in(alloc: Global, line: &[u8]) -> Result<Vec<usize>, NoReq
 pub(crate) struct Source<'a, R> {
     alloc: Global,
     reader: &'a mut R,
-    numbers: IntoIter<usize>,
+    numbers: [usize; MOST_NUMBERS],
+    taken: usize,
 }
 
 impl<'a, R: Read> Source<'a, R> {
-    pub(crate) fn new(alloc: Global, reader: &'a mut R, numbers: Vec<usize>) -> Source<'a, R> {
+    pub(crate) fn new(
+        alloc: Global,
+        reader: &'a mut R,
+        numbers: [usize; MOST_NUMBERS],
+    ) -> Source<'a, R> {
         Source {
             alloc,
             reader,
-            numbers: numbers.into_iter(),
+            numbers,
+            taken: 0,
         }
     }
 
     pub(crate) fn number(&mut self) -> Result<usize, NoRequest> {
-        self.numbers.next().ok_or(NoRequest::Bad)
+        let number = self.numbers.get(self.taken).copied().ok_or(NoRequest::Bad)?;
+        self.taken += 1;
+        Ok(number)
     }
 
     // A number that is no length: the largest there is stands for the largest of all.

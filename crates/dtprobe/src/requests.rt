@@ -1,14 +1,14 @@
 // Reading a request: its head line, the input, and what the slices hold that it lends.
-use crate::lent::{Columns, NUMBER, Source, Table, numbers_in, read_array};
+use crate::lent::{Columns, MOST_NUMBERS, NUMBER, Source, Table, numbers_in, read_array};
 use finder::Wanted;
-use std::alloc::{AllocError, AllocFailed, Global};
+use std::alloc::{AllocError, Global};
 use std::io;
 use std::io::Read;
 
 // The bytes of a head line behind its letter: five numbers, for a call over media twelve, and the line end.
 const LINE: usize = 5 * NUMBER + 1;
 
-const MEDIUM_LINE: usize = 12 * NUMBER + 1;
+const MEDIUM_LINE: usize = MOST_NUMBERS * NUMBER + 1;
 
 // Why there is no request: there is none of that form, or reading it failed.
 #[derive(Debug, Drop)]
@@ -26,12 +26,6 @@ impl From<io::Error> for NoRequest {
 impl From<AllocError> for NoRequest {
     fn from(e: AllocError) -> NoRequest {
         NoRequest::Failed(io::Error::from(e))
-    }
-}
-
-impl<T: Drop> From<AllocFailed<T>> for NoRequest {
-    fn from(e: AllocFailed<T>) -> NoRequest {
-        NoRequest::from(AllocError::from(e))
     }
 }
 
@@ -99,11 +93,11 @@ impl Request {
         let numbers = match letter {
             b'N' | b'O' => {
                 let line: [u8; MEDIUM_LINE] = read_array(reader)?;
-                numbers_in(alloc, &line)?
+                numbers_in(&line)?
             }
             _ => {
                 let line: [u8; LINE] = read_array(reader)?;
-                numbers_in(alloc, &line)?
+                numbers_in(&line)?
             }
         };
         let mut source = Source::new(alloc, reader, numbers);
