@@ -34,6 +34,11 @@ has_room n a b c d e =
       start = leb→le n (length d) (and_both (leb n (length d)) _ z.1).0;
     }
 
+-- the row i is one of the columns, as they were and as they are
+pub record RowThere (c4₀ c5₀ c12₀ start₀ c4 c5 c12 start : List ℕ) (i : ℕ) : Type 0 where
+  pub was : Roomy (i + 1) c4₀ c5₀ c12₀ start₀
+  pub is : Roomy (i + 1) c4 c5 c12 start
+
 -- the four columns with the rows of these payments, and behind them what they held before
 abbrev pub Filled : List Payment → List ℕ → List ℕ → List ℕ → List ℕ → List ℕ → List ℕ → List ℕ → List ℕ → Type 0
 Filled ps c4 c5 c12 start c4' c5' c12' start' =

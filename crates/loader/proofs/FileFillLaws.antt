@@ -36,7 +36,7 @@ use Rattle.sums.specs.Sums.{sums_of, totals_of}
 use Rattle.loader.specs.declared.FileRows.{FileRows}
 use Rattle.loader.specs.Columns.{bank_codes, accounts, cents, starts_from, starts_in}
 use Rattle.loader.specs.Filling.{Within, plus, payments_read, rows_read, Fillable}
-use Rattle.loader.proofs.ColumnLaws.{Roomy, has_room, ColumnFrom, column_from_start, column_from_more}
+use Rattle.loader.proofs.ColumnLaws.{has_room, RowThere, ColumnFrom, column_from_start, column_from_more}
 
 pub same_sums : {a b : AccountSum} {c d : BankCodeSum} {e g : CentSum} → a ≡ b → c ≡ d → e ≡ g
     → ◌≡◌ {A = Sums} (record { accounts = a; banks = c; cents = e }) (record { accounts = b; banks = d; cents = g })
@@ -249,11 +249,6 @@ module _ {f : List ℕ} {begin first : ℕ} {columns : List (List ℕ)} (x : Fil
               ((rw none_left at kept.accounts_left).comes, ((rw none_left at kept.cents_left).comes, (rw none_left at kept.starts_left).comes)),
             ),
           )
-
--- the next row is one of the columns, as they were and as they are
-pub record RowThere (c4₀ c5₀ c12₀ start₀ c4 c5 c12 start : List ℕ) (i : ℕ) : Type 0 where
-  pub was : Roomy (i + 1) c4₀ c5₀ c12₀ start₀
-  pub is : Roomy (i + 1) c4 c5 c12 start
 
 pub row_there : {f c4₀ c5₀ c12₀ start₀ c4 c5 c12 start : List ℕ} {begin first p i count : ℕ} {sums : Sums} (x : Fillable f begin first (c4₀ ∷ c5₀ ∷ c12₀ ∷ start₀ ∷ []))
     → FileFilling f begin first c4₀ c5₀ c12₀ start₀ c4 c5 c12 start p i count sums → get_or f (p + place.C2) 0 ≡ 0x43 → RowThere c4₀ c5₀ c12₀ start₀ c4 c5 c12 start i
