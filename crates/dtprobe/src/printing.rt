@@ -1,5 +1,4 @@
 // Printing an answer: lines of numbers, and what a lent slice holds.
-use crate::lent::{Columns, Table};
 use checker::Checked;
 use finder::Spot;
 use medium::MediumChecked;
@@ -71,22 +70,6 @@ impl fmt::Display for Column<'_> {
     }
 }
 
-// A line for each column.
-impl fmt::Display for Columns {
-    fn fmt<W: fmt::Write>(&self, f: &mut fmt::Formatter<W>) -> fmt::Result {
-        writeln!(f, "{}", Column(&self.c4))?;
-        writeln!(f, "{}", Column(&self.c5))?;
-        writeln!(f, "{}", Column(&self.c12))?;
-        writeln!(f, "{}", Column(&self.start))
-    }
-}
-
-impl fmt::Display for Table {
-    fn fmt<W: fmt::Write>(&self, f: &mut fmt::Formatter<W>) -> fmt::Result {
-        writeln!(f, "{}", Column(&self.start))?;
-        writeln!(f, "{}", Column(&self.count))?;
-        writeln!(f, "{}", Column(&self.sum5))?;
-        writeln!(f, "{}", Column(&self.sum4))?;
-        writeln!(f, "{}", Column(&self.sum12))
-    }
+pub(crate) fn rows<W: Write>(writer: &mut W, rows: &[u64]) -> io::Result<()> {
+    writeln!(writer, "{}", Column(rows))
 }

@@ -1,9 +1,9 @@
-// Reading a request: its head line, the input, and what the slices hold that it lends.
-use crate::lent::{Columns, MOST_NUMBERS, NUMBER, Source, Table, numbers_in, read_array};
+// Reading a request: its head line, the input and the call that it asks for.
+use crate::answers;
+use crate::lent::{MOST_NUMBERS, NUMBER, Source, numbers_in, read_array};
 use finder::Wanted;
-use std::alloc::{AllocError, Global};
 use std::io;
-use std::io::Read;
+use std::io::{Read, Write};
 
 // The bytes of a head line behind its letter: five numbers, for a call over media twelve, and the line end.
 const LINE: usize = 5 * NUMBER + 1;
@@ -23,36 +23,30 @@ impl From<io::Error> for NoRequest {
     }
 }
 
-impl From<AllocError> for NoRequest {
-    fn from(e: AllocError) -> NoRequest {
-        NoRequest::Failed(io::Error::from(e))
-    }
-}
-
-// What is asked for, with what is lent beside the input.
-#[derive(Drop)]
+// What is asked for, with the numbers that a head line has for it beside lengths.
+#[derive(Clone, Copy)]
 pub(crate) enum Call {
     Check,
     CheckMedium,
-    Load(Columns),
-    LoadMedium(Columns, Table),
-    List(Vec<u8>),
-    Compose(Vec<u8>),
+    Load,
+    LoadMedium,
+    List,
+    Compose,
     Find(usize),
     Locate(usize, Wanted),
     View(usize, Wanted),
 }
 
 impl Call {
-    // Reads what the call of this letter has in the head line and behind the input.
+    // The call of this letter.
     fn read<R: Read>(letter: u8, source: &mut Source<'_, R>) -> Result<Call, NoRequest> {
         match letter {
             b'C' => Ok(Call::Check),
             b'N' => Ok(Call::CheckMedium),
-            b'L' => Ok(Call::Load(Columns::read(source)?)),
-            b'O' => Ok(Call::LoadMedium(Columns::read(source)?, Table::read(source)?)),
-            b'P' => Ok(Call::List(source.bytes()?)),
-            b'M' => Ok(Call::Compose(source.bytes()?)),
+            b'L' => Ok(Call::Load),
+            b'O' => Ok(Call::LoadMedium),
+            b'P' => Ok(Call::List),
+            b'M' => Ok(Call::Compose),
             b'F' => Ok(Call::Find(source.index()?)),
             b'H' => Ok(Call::Locate(source.index()?, wanted(source)?)),
             b'V' => Ok(Call::View(source.index()?, wanted(source)?)),
@@ -73,36 +67,31 @@ fn wanted<R: Read>(source: &mut Source<'_, R>) -> Result<Wanted, NoRequest> {
     }
 }
 
-#[derive(Drop)]
-pub(crate) struct Request {
-    pub(crate) input: Vec<u8>,
-    pub(crate) call: Call,
-}
-
-impl Request {
-    // Reads the next request; None where there is none behind the last.
-    pub(crate) fn read<R: Read>(
-        alloc: Global,
-        reader: &mut R,
-    ) -> Result<Option<Request>, NoRequest> {
-        let mut letter = [0u8; 1];
-        if reading::read_full(reader, &mut letter)? == 0 {
-            return Ok(None);
-        }
-        let [letter] = letter;
-        let numbers = match letter {
-            b'N' | b'O' => {
-                let line: [u8; MEDIUM_LINE] = read_array(reader)?;
-                numbers_in(&line)?
-            }
-            _ => {
-                let line: [u8; LINE] = read_array(reader)?;
-                numbers_in(&line)?
-            }
-        };
-        let mut source = Source::new(alloc, reader, numbers);
-        let input = source.bytes()?;
-        let call = Call::read(letter, &mut source)?;
-        Ok(Some(Request { input, call }))
+// Reads the next request into what is lent for its input and its output, and answers it; false where there is none behind the last.
+pub(crate) fn answer_next<R: Read, W: Write>(
+    reader: &mut R,
+    writer: &mut W,
+    input: &mut [u8],
+    out: &mut [u8],
+) -> Result<bool, NoRequest> {
+    let mut letter = [0u8; 1];
+    if reading::read_full(reader, &mut letter)? == 0 {
+        return Ok(false);
     }
+    let [letter] = letter;
+    let numbers = match letter {
+        b'N' | b'O' => {
+            let line: [u8; MEDIUM_LINE] = read_array(reader)?;
+            numbers_in(&line)?
+        }
+        _ => {
+            let line: [u8; LINE] = read_array(reader)?;
+            numbers_in(&line)?
+        }
+    };
+    let mut source = Source::new(reader, numbers);
+    let n = source.bytes(input)?;
+    let call = Call::read(letter, &mut source)?;
+    answers::answer(&mut source, writer, call, &input[..n], out)?;
+    Ok(true)
 }
