@@ -1,5 +1,5 @@
-// Reading from any reader until there is enough or the input ends. All that the programs read comes in through it: dtlist and dtmake by
-// `read_full`, which cannot run out of memory, dtprobe by both.
+// Reading from any reader until there is enough or the input ends. All that the programs read comes in through `read_full`, which cannot run out of
+// memory; `read_up_to` is for a caller that has a heap.
 #![tactic(auto)]
 
 ghost use Rattle.std.specs.Prelude.{◌≡◌, ◌<◌, ◌≤◌, length, take, vec_len, IfOk, IfSome};
