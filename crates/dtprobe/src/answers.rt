@@ -5,7 +5,9 @@ use crate::requests::{Call, NoRequest};
 use output::Written;
 use std::io::{Read, Write};
 
-// Loads a file into the lent columns, and prints what every one of them then holds.
+// Loads a file into the lent columns, and prints what every one of them then holds. It is not inlined, nor is the load of a medium, so that no other
+// call has their columns on its stack.
+#[inline(never)]
 fn load<R: Read, W: Write>(
     source: &mut Source<'_, R>,
     writer: &mut W,
@@ -63,6 +65,7 @@ fn load_medium_into<W: Write>(
 }
 
 // Reads the columns and the table that are lent, and loads a medium into them.
+#[inline(never)]
 fn load_medium<R: Read, W: Write>(
     source: &mut Source<'_, R>,
     writer: &mut W,

@@ -1,5 +1,6 @@
 // What a request has behind its letter: the numbers of its head line, and bytes and columns of the lengths that they tell. All of it is read into
-// arrays that are lent: so a request needs no memory that there may not be.
+// arrays that are lent: so a request needs nothing of a heap.
+ghost use Rattle.std.specs.Prelude.{◌≡◌, IfOk};
 ghost use Rattle.std.specs.Io.{ReadsAtMost};
 
 use crate::requests::NoRequest;
@@ -41,10 +42,39 @@ pub(crate) fn read_array<R: Read, const N: usize>(reader: &mut R) -> Result<[u8;
     Ok(bytes)
 }
 
+// The next n bytes, to the start of what is lent for them. Where there is no room for them, or the input ends before, the request is none.
+fn read_bytes<R: Read>(reader: &mut R, bytes: &mut [u8], n: usize) -> Result<usize, NoRequest>
+    ensures in_bytes { ReadsAtMost result bytes.new }
+    ensures all { IfOk result (λ count. count ≡ n) }
+{
+    if n > bytes.len() {
+        return Err(NoRequest::Bad);
+    }
+    let read = reading::read_full(reader, &mut bytes[..n])?;
+    if read < n {
+        return Err(NoRequest::Bad);
+    }
+    Ok(n)
+}
+
 // The next row of a column: a number in digits, or 0 where they are no digits.
 fn read_row<R: Read>(reader: &mut R) -> Result<u64, NoRequest> {
     let digits: [u8; ROW] = read_array(reader)?;
     Ok(number_of(&digits).unwrap_or(0))
+}
+
+// The next n rows, to the start of a column. Where it has no room for them, or the input ends before, the request is none.
+fn read_rows<R: Read>(reader: &mut R, column: &mut [u64], n: usize) -> Result<usize, NoRequest>
+    ensures in_column { ReadsAtMost result column.new }
+    ensures all { IfOk result (λ count. count ≡ n) }
+{
+    if n > column.len() {
+        return Err(NoRequest::Bad);
+    }
+    for row in &mut column[..n] {
+        *row = read_row(reader)?;
+    }
+    Ok(n)
 }
 
 // The numbers of a head line, behind its letter: each a blank and six digits. Those that it does not have are 0, and no call asks for them.
@@ -92,14 +122,7 @@ impl<'a, R: Read> Source<'a, R> {
         ensures { ReadsAtMost result bytes.new }
     {
         let n = self.number()?;
-        if n > bytes.len() {
-            return Err(NoRequest::Bad);
-        }
-        let read = reading::read_full(self.reader, &mut bytes[..n])?;
-        if read < n {
-            return Err(NoRequest::Bad);
-        }
-        Ok(n)
+        read_bytes(self.reader, bytes, n)
     }
 
     // As many rows as the next number tells, to the start of a column; it gives back how many they are.
@@ -107,12 +130,6 @@ impl<'a, R: Read> Source<'a, R> {
         ensures { ReadsAtMost result column.new }
     {
         let n = self.number()?;
-        if n > column.len() {
-            return Err(NoRequest::Bad);
-        }
-        for row in &mut column[..n] {
-            *row = read_row(self.reader)?;
-        }
-        Ok(n)
+        read_rows(self.reader, column, n)
     }
 }
