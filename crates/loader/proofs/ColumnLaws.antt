@@ -1,5 +1,5 @@
 -- Room in columns, and a column while rows are written into it, one after the other.
-use Prim.Native.Nat.{ℕ, suc, ◌+◌, ◌≤◌}
+use Prim.Native.Nat.{ℕ, suc, ◌+◌, ◌≤◌, ◌<◌}
 use native.Mathlib.Nat.{zero-add, add-zero}
 use native.Mathlib.Numerals.{add-one}
 use native.Mathlib.Omega.{arith}
@@ -38,6 +38,21 @@ has_room n a b c d e =
 pub record RowThere (c4₀ c5₀ c12₀ start₀ c4 c5 c12 start : List ℕ) (i : ℕ) : Type 0 where
   pub was : Roomy (i + 1) c4₀ c5₀ c12₀ start₀
   pub is : Roomy (i + 1) c4 c5 c12 start
+
+-- it is one where it is among the first n, the columns had room for n, and each is as long as it was
+pub row_among : {n i : ℕ} {c4₀ c5₀ c12₀ start₀ c4 c5 c12 start : List ℕ} → i < n → Roomy n c4₀ c5₀ c12₀ start₀
+    → length c4 ≡ length c4₀ → length c5 ≡ length c5₀ → length c12 ≡ length c12₀ → length start ≡ length start₀
+    → RowThere c4₀ c5₀ c12₀ start₀ c4 c5 c12 start i
+row_among h r as_c4 as_c5 as_c12 as_start =
+    record {
+      was = record { c4 = omega (arith, r.c4); c5 = omega (arith, r.c5); c12 = omega (arith, r.c12); start = omega (arith, r.start) };
+      is = record {
+        c4 = omega (arith, r.c4, as_c4);
+        c5 = omega (arith, r.c5, as_c5);
+        c12 = omega (arith, r.c12, as_c12);
+        start = omega (arith, r.start, as_start);
+      };
+    }
 
 -- the four columns with the rows of these payments, and behind them what they held before
 abbrev pub Filled : List Payment → List ℕ → List ℕ → List ℕ → List ℕ → List ℕ → List ℕ → List ℕ → List ℕ → Type 0

@@ -36,7 +36,7 @@ use Rattle.sums.specs.Sums.{sums_of, totals_of}
 use Rattle.loader.specs.declared.FileRows.{FileRows}
 use Rattle.loader.specs.Columns.{bank_codes, accounts, cents, starts_from, starts_in}
 use Rattle.loader.specs.Filling.{Within, plus, payments_read, rows_read, Fillable}
-use Rattle.loader.proofs.ColumnLaws.{has_room, RowThere, ColumnFrom, column_from_start, column_from_more}
+use Rattle.loader.proofs.ColumnLaws.{has_room, RowThere, row_among, ColumnFrom, column_from_start, column_from_more}
 
 pub same_sums : {a b : AccountSum} {c d : BankCodeSum} {e g : CentSum} → a ≡ b → c ≡ d → e ≡ g
     → ◌≡◌ {A = Sums} (record { accounts = a; banks = c; cents = e }) (record { accounts = b; banks = d; cents = g })
@@ -253,15 +253,6 @@ module _ {f : List ℕ} {begin first : ℕ} {columns : List (List ℕ)} (x : Fil
 pub row_there : {f c4₀ c5₀ c12₀ start₀ c4 c5 c12 start : List ℕ} {begin first p i count : ℕ} {sums : Sums} (x : Fillable f begin first (c4₀ ∷ c5₀ ∷ c12₀ ∷ start₀ ∷ []))
     → FileFilling f begin first c4₀ c5₀ c12₀ start₀ c4 c5 c12 start p i count sums → get_or f (p + place.C2) 0 ≡ 0x43 → RowThere c4₀ c5₀ c12₀ start₀ c4 c5 c12 start i
 row_there {first = first} x w h =
-    let n = one_more x w h in
-    let r = has_room (first + length x.says.payments) _ _ _ _ x.room in
     let k = w.kept in
-    record {
-      was = record { c4 = omega (arith, r.c4); c5 = omega (arith, r.c5); c12 = omega (arith, r.c12); start = omega (arith, r.start) };
-      is = record {
-        c4 = omega (arith, r.c4, k.bank_codes_left.long);
-        c5 = omega (arith, r.c5, k.accounts_left.long);
-        c12 = omega (arith, r.c12, k.cents_left.long);
-        start = omega (arith, r.start, k.starts_left.long);
-      };
-    }
+    row_among (one_more x w h) (has_room (first + length x.says.payments) _ _ _ _ x.room)
+    k.bank_codes_left.long k.accounts_left.long k.cents_left.long k.starts_left.long

@@ -1,6 +1,5 @@
 -- One turn of the loop that fills the columns: a row of the next payment, and on to the one behind it.
 use Prim.Native.Nat.{ℕ, suc, ◌+◌, ◌*◌, ◌≤◌, ◌<◌, min}
-use native.Mathlib.Omega.{arith}
 use mathlib.Core.Path.{◌≡◌, refl, ap, ◌∙◌}
 use mathlib.Core.Bool.{true}
 use mathlib.Core.List.{List, [], ◌∷◌}
@@ -17,7 +16,7 @@ use Rattle.layout.proofs.PaymentLaws.{Row, row}
 use Rattle.layout.proofs.StepLaws.{Passing, pass_start, next, none_left, pass_to}
 use Rattle.loader.specs.Columns.{bank_codes, accounts, cents, starts_from, starts}
 use Rattle.loader.specs.Loading.{have_room}
-use Rattle.loader.proofs.ColumnLaws.{Roomy, has_room, RowThere, Filled, Column, column_start, column_more, column_end}
+use Rattle.loader.proofs.ColumnLaws.{Roomy, has_room, RowThere, row_among, Filled, Column, column_start, column_more, column_end}
 
 pub length_starts : (p : ℕ) (ps : List Payment) → length (starts_from p ps) ≡ length ps
 length_starts p [] = refl
@@ -56,17 +55,8 @@ module _ {f c4₀ c5₀ c12₀ start₀ c4 c5 c12 start : List ℕ} {i p : ℕ} 
   -- its row is one of the columns
   pub row_there : {n : ℕ} → i < n → have_room n (c4₀ ∷ c5₀ ∷ c12₀ ∷ start₀ ∷ []) ≡ true → RowThere c4₀ c5₀ c12₀ start₀ c4 c5 c12 start i
   row_there {n} h room =
-      let r = has_room n _ _ _ _ room in
       let k = w.kept in
-      record {
-        was = record { c4 = omega (arith, r.c4); c5 = omega (arith, r.c5); c12 = omega (arith, r.c12); start = omega (arith, r.start) };
-        is = record {
-          c4 = omega (arith, r.c4, k.bank_codes_left.long);
-          c5 = omega (arith, r.c5, k.accounts_left.long);
-          c12 = omega (arith, r.c12, k.cents_left.long);
-          start = omega (arith, r.start, k.starts_left.long);
-        };
-      }
+      row_among h (has_room n _ _ _ _ room) k.bank_codes_left.long k.accounts_left.long k.cents_left.long k.starts_left.long
 
   -- one turn: the numbers of the next payment go each into its column, and the place goes on by the bytes that the number of its parts tells
   pub fill_more : i < length all → {bank account amount k step : ℕ}
